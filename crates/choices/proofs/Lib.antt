@@ -1,0 +1,4 @@
+-- The lemmas that several proofs share, here and in the crates above.
+mod Looking
+pub mod Choices
+pub mod Numbers

@@ -1,0 +1,4 @@
+-- The definitions that contracts cite.
+pub mod Choice
+pub mod Numbered
+pub mod Tallied

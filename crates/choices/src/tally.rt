@@ -1,0 +1,43 @@
+// What one look over the pans tells of a choice.
+ghost use Prim.Native.Nat.{_+_, _^_, _<_, _≤_};
+ghost use Rattle.choices.specs.Choice.{bit};
+ghost use lib.Dec.{leb};
+ghost use mathlib.Core.Bool.{_&&_, _||_, cond, not};
+ghost use mathlib.Core.Path.{_≡_};
+
+// What the opened pans weigh, how many they are, and whether no opened pan is empty and no pan that has to be opened is shut.
+#[derive(Clone, Copy)]
+pub struct Tally {
+    pub weight: u32,
+    pub pans: u32,
+    pub sound: bool,
+}
+
+impl Tally {
+    pub const NOTHING: Tally = Tally {
+        weight: 0,
+        pans: 0,
+        sound: true,
+    };
+
+    // The tally with one pan more, of which is known whether it may wait on and whether it is opened.
+    pub fn with(self, weight: u32, may_wait: bool, opened: bool) -> Tally
+        requires { ⌜ self .weight + weight < 2 ^ 32 ⌝ ∗ ⌜ self .pans + 1 < 2 ^ 32 ⌝ }
+        ensures weighs { λ r. ⌜ r .weight ≡ self .weight + cond opened weight 0 ⌝ }
+        ensures counts { λ r. ⌜ r .pans ≡ self .pans + bit opened ⌝ }
+        ensures sound { λ r. ⌜ r .sound ≡ (self .sound && ((not opened || leb 1 weight) && (opened || «may_wait»))) ⌝ }
+    {
+        if opened {
+            Tally {
+                weight: self.weight + weight,
+                pans: self.pans + 1,
+                sound: self.sound & (weight >= 1),
+            }
+        } else {
+            Tally {
+                sound: self.sound & may_wait,
+                ..self
+            }
+        }
+    }
+}
