@@ -8,7 +8,7 @@ use native.Mathlib.Nat.{pow-succ', mul-assoc, mul-comm, mul-add-div-right}
 use native.Mathlib.Numerals.{add-one}
 use lib.ListN.{length}
 use lib.Dec.{eqb}
-use Rattle.std.proofs.shelf.Bits.{pow-pos, pow-below, shr-high}
+use Rattle.std.proofs.shelf.Bits.{pow-pos, pow-below, shr-high, mod-pow-add}
 use Rattle.std.proofs.shelf.Ways.{tells}
 use Rattle.choices.specs.Choice.{Choice, bit}
 use Rattle.choices.specs.Numbered.{choice-of, number-of, odd}
@@ -67,6 +67,11 @@ pub choice-of-code : (cs : Choice) → choice-of (length cs) (code cs) ≡ cs
 choice-of-code [] = refl
 choice-of-code (c ∷ cs) =
     ap₂ _∷_ (ap odd (shr-high (bit c) (length cs) (code cs) (code-lt cs)) ∙ odd-bit c) (choice-of-high (length cs) (bit c) (code cs) ∙ choice-of-code cs)
+
+pub code-choice-of : (n m : ℕ) → code (choice-of n m) ≡ m % 2 ^ n
+code-choice-of zero m = omega arith
+code-choice-of (suc n) m =
+    rw (length-choice-of n m, bit-odd (m / 2 ^ n), code-choice-of n m) (sym (mod-pow-add m 1 n) ∙ ap (λ (k : ℕ). m % 2 ^ k) {y = suc n} (omega arith))
 
 -- every choice of n pans is some number below 2 ^ n
 pub numbered : (n : ℕ) (cs : Choice) → length cs ≡ n → (m : ℕ) × (m < 2 ^ n) × (choice-of n m ≡ cs)

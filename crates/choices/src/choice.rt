@@ -1,25 +1,10 @@
 // A choice as the bits of a number, pan 0 in the highest: what it weighs, how many pans it opens, whether it fits.
-ghost use Prim.Native.Nat.{ℕ, _+_, _≤_};
 ghost use Rattle.choices.specs.Choice.{fits as fits-rule, opened, weight-of};
 ghost use Rattle.choices.specs.Numbered.{choice-of, number-of};
-ghost use Rattle.choices.specs.Tallied.{Tallied};
 ghost use lib.ListN.{length};
 ghost use mathlib.Core.Path.{_≡_};
 use crate::ring::Ring;
-use crate::tally::Tally;
-
-// Weights and ages gone through side by side.
-pub fn look(ring: Ring, choice: u32) -> Tally
-    ensures { λ r. ⌜ Tallied (now (ring .entry .weights)) (now (ring .entry .ages)) (ring .entry .rule .age) (choice-of (length (now (ring .entry .weights))) choice) r ⌝ }
-{
-    let mut seen = Tally::NOTHING;
-    let mut place = ring.weights.len();
-    for (w, a) in ring.weights.iter().zip(ring.ages) {
-        place -= 1;
-        seen = seen.with(*w, *a < ring.rule.age, (choice >> place) % 2 == 1);
-    }
-    seen
-}
+use crate::tally::look;
 
 // What the opened pans weigh together.
 pub fn weight(ring: Ring, choice: u32) -> u32
@@ -47,13 +32,12 @@ pub fn fits(ring: Ring, choice: u32) -> bool
         & seen.sound
 }
 
-// The number that is answered for a choice of n pans: 2 to the power of each opened pan's number, added.
-pub fn number(pans: usize, choice: u32) -> u32
-    requires { ⌜ pans ≤ 24 ⌝ }
-    ensures { λ r. ⌜ r ≡ number-of (choice-of pans choice) ⌝ }
+// The number that is answered for a choice: 2 to the power of each opened pan's number, added.
+pub fn number(ring: Ring, choice: u32) -> u32
+    ensures { λ r. ⌜ r ≡ number-of (choice-of (length (now (ring .entry .weights))) choice) ⌝ }
 {
     let mut made = 0;
-    for place in 0..pans {
+    for place in 0..ring.weights.len() {
         made = 2 * made + (choice >> place) % 2;
     }
     made

@@ -6,9 +6,9 @@ mod tally;
 
 pub use choice::count;
 pub use choice::fits;
-pub use choice::look;
 pub use choice::number;
 pub use choice::weight;
 pub use ring::Ring;
 pub use rule::Rule;
 pub use tally::Tally;
+pub use tally::look;

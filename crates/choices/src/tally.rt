@@ -1,9 +1,13 @@
 // What one look over the pans tells of a choice.
 ghost use Prim.Native.Nat.{_+_, _^_, _<_, _≤_};
 ghost use Rattle.choices.specs.Choice.{bit};
+ghost use Rattle.choices.specs.Numbered.{choice-of};
+ghost use Rattle.choices.specs.Tallied.{Tallied};
 ghost use lib.Dec.{leb};
+ghost use lib.ListN.{length};
 ghost use mathlib.Core.Bool.{_&&_, _||_, cond, not};
 ghost use mathlib.Core.Path.{_≡_};
+use crate::ring::Ring;
 
 // What the opened pans weigh, how many they are, and whether no opened pan is empty and no pan that has to be opened is shut.
 #[derive(Clone, Copy)]
@@ -21,7 +25,7 @@ impl Tally {
     };
 
     // The tally with one pan more, of which is known whether it may wait on and whether it is opened.
-    pub fn with(self, weight: u32, may_wait: bool, opened: bool) -> Tally
+    fn with(self, weight: u32, may_wait: bool, opened: bool) -> Tally
         requires { ⌜ self .weight + weight < 2 ^ 32 ⌝ ∗ ⌜ self .pans + 1 < 2 ^ 32 ⌝ }
         ensures weighs { λ r. ⌜ r .weight ≡ self .weight + cond opened weight 0 ⌝ }
         ensures counts { λ r. ⌜ r .pans ≡ self .pans + bit opened ⌝ }
@@ -40,4 +44,17 @@ impl Tally {
             }
         }
     }
+}
+
+// Weights and ages gone through side by side.
+pub fn look(ring: Ring, choice: u32) -> Tally
+    ensures { λ r. ⌜ Tallied (now (ring .entry .weights)) (now (ring .entry .ages)) (ring .entry .rule .age) (choice-of (length (now (ring .entry .weights))) choice) r ⌝ }
+{
+    let mut seen = Tally::NOTHING;
+    let mut place = ring.weights.len();
+    for (w, a) in ring.weights.iter().zip(ring.ages) {
+        place -= 1;
+        seen = seen.with(*w, *a < ring.rule.age, (choice >> place) % 2 == 1);
+    }
+    seen
 }

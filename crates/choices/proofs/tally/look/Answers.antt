@@ -3,7 +3,7 @@ use native.Mathlib.Omega.{arith}
 use mathlib.Core.Path.{sym}
 use Rattle.std.proofs.shelf.Adapters.{empty-from-zip}
 use Rattle.choices.proofs.Looking.{looking-next, looking-all, looking-room}
-use Rattle.choices.proofs.choice.look.Needs as need
+use Rattle.choices.proofs.tally.look.Needs as need
 
 pub cast-place : need.cast-place
 cast-place c = omega (arith, c .loop-w .inv .2 .few)

@@ -3,7 +3,7 @@ use Rattle.std.specs.Parts.{iter-rest, zip-first, zip-second}
 use Rattle.choices.specs.Numbered.{choice-of}
 use Rattle.choices.proofs.Looking.{Looking}
 use lib.ListN.{length}
-use Rattle.choices.proofs.choice.look.Given as given
+use Rattle.choices.proofs.tally.look.Given as given
 
 abbrev pub Inv-loop-w : given.InvT-loop-w
 Inv-loop-w l =
