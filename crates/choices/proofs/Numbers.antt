@@ -11,7 +11,7 @@ use lib.Dec.{eqb}
 use Rattle.std.proofs.shelf.Bits.{pow-pos, pow-below, shr-high, mod-pow-add}
 use Rattle.std.proofs.shelf.Ways.{tells}
 use Rattle.choices.specs.Choice.{Choice, bit}
-use Rattle.choices.specs.Numbered.{choice-of, number-of, odd}
+use Rattle.choices.specs.Numbered.{choice-of, choice-from, number-of, odd}
 
 pub length-choice-of : (n m : ℕ) → length (choice-of n m) ≡ n
 length-choice-of zero m = refl
@@ -76,3 +76,21 @@ code-choice-of (suc n) m =
 -- every choice of n pans is some number below 2 ^ n
 pub numbered : (n : ℕ) (cs : Choice) → length cs ≡ n → (m : ℕ) × (m < 2 ^ n) × (choice-of n m ≡ cs)
 numbered n cs e = (code cs, rw e at (code-lt cs), rw e at (choice-of-code cs))
+
+-- the number that is answered stands for the choice
+pub choice-from-number : (cs : Choice) → choice-from (length cs) (number-of cs) ≡ cs
+choice-from-number [] = refl
+choice-from-number (c ∷ cs) =
+    ap₂ _∷_ (ap (λ (r : ℕ). eqb r 1) (low c (number-of cs)) ∙ is-bit c) (ap (choice-from (length cs)) (half c (number-of cs)) ∙ choice-from-number cs)
+  where
+    is-bit : (c : Bool) → eqb (bit c) 1 ≡ c
+    is-bit true = refl
+    is-bit false = refl
+
+    low : (c : Bool) (n : ℕ) → (bit c + 2 * n) % 2 ≡ bit c
+    low true n = omega arith
+    low false n = omega arith
+
+    half : (c : Bool) (n : ℕ) → (bit c + 2 * n) / 2 ≡ n
+    half true n = omega arith
+    half false n = omega arith

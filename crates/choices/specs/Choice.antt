@@ -5,12 +5,13 @@
 --   none-empty   every opened pan has something in it
 --   keeps-old    every pan that has waited so many bags, or more, is opened
 --   fits         a choice makes a bag by the rule
+--   marked       a number of each pan, changed by whether it is opened
 --   emptied      what lies in the pans after the bag
 --   aged         for how many bags each pan has waited after the bag
 use mathlib.Core.Path.{_≡_}
 use mathlib.Core.Bool.{Bool, true, false, cond, _&&_, _||_, not}
 use mathlib.Core.List.{List, [], _∷_}
-use Prim.Native.Nat.{ℕ, zero, suc, _+_}
+use Prim.Native.Nat.{ℕ, _+_}
 use lib.Dec.{ltb, leb, eqb}
 use lib.ListN.{length}
 use Rattle.choices.specs.declared.rule.Rule.{Rule}
@@ -49,12 +50,13 @@ fits r ws as′ cs =
     && (leb (opened cs) (r .pans)
     && (none-empty ws cs && keeps-old (r .age) as′ cs))))
 
+abbrev pub marked : (Bool → ℕ → ℕ) → List ℕ → Choice → List ℕ
+marked f [] cs = []
+marked f (x ∷ xs) [] = x ∷ xs
+marked f (x ∷ xs) (c ∷ cs) = f c x ∷ marked f xs cs
+
 abbrev pub emptied : List ℕ → Choice → List ℕ
-emptied [] cs = []
-emptied (w ∷ ws) [] = w ∷ ws
-emptied (w ∷ ws) (c ∷ cs) = cond c 0 w ∷ emptied ws cs
+emptied = marked (λ c w. cond c 0 w)
 
 abbrev pub aged : List ℕ → Choice → List ℕ
-aged [] cs = []
-aged (a ∷ as′) [] = a ∷ as′
-aged (a ∷ as′) (c ∷ cs) = cond c 0 (suc a) ∷ aged as′ cs
+aged = marked (λ c a. cond c 0 (a + 1))

@@ -2,6 +2,7 @@
 --   choice-of    the choice of n pans in the n lowest bits of a number, pan 0 in the highest of them: the larger of two
 --                numbers opens the first pan that differs
 --   number-of    the number that is answered for a choice: 2 to the power of each opened pan's number, added
+--   choice-from  the choice of n pans that such a number stands for
 use mathlib.Core.Bool.{Bool, cond}
 use mathlib.Core.List.{List, [], _∷_}
 use Prim.Native.Nat.{ℕ, zero, suc, _+_, _*_, _/_, _%_, _^_}
@@ -18,3 +19,7 @@ choice-of (suc n) m = odd (m / 2 ^ n) ∷ choice-of n m
 abbrev pub number-of : Choice → ℕ
 number-of [] = 0
 number-of (c ∷ cs) = bit c + 2 * number-of cs
+
+abbrev pub choice-from : ℕ → ℕ → Choice
+choice-from zero p = []
+choice-from (suc n) p = odd p ∷ choice-from n (p / 2)
