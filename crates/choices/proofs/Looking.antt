@@ -1,6 +1,6 @@
 -- One look over the pans, pan by pan: what is seen so far and what is left make up the whole.
 use mathlib.Core.Path.{_≡_, refl, sym, ap, _∙_}
-use mathlib.Core.Bool.{Bool, true, false, cond, _&&_, _||_, not, and-true}
+use mathlib.Core.Bool.{Bool, true, false, cond, _&&_, _||_, not, and-true, and-assoc}
 use mathlib.Core.List.{List, [], _∷_}
 use Prim.Native.Nat.{ℕ, zero, suc, _+_, _*_, _-_, _/_, _%_, _^_, _≤_, _<_}
 use native.Mathlib.Omega.{arith}
@@ -21,14 +21,8 @@ pub record Looking (old : ℕ) (ws as″ : List ℕ) (cs : Choice) (ws′ as′ 
   pub fits : t .weight + 1000000 * n ≤ 24000000
   pub weighs : t .weight + weight-of ws′ (choice-of n m) ≡ weight-of ws cs
   pub counts : t .pans + opened (choice-of n m) ≡ opened cs
-  pub sound : (t .sound && (none-empty ws′ (choice-of n m) && keeps-old old as′ (choice-of n m))) ≡ (none-empty ws cs && keeps-old old as″ cs)
-
-regroup : (s a b n k : Bool) → ((s && (a && b)) && (n && k)) ≡ (s && ((a && n) && (b && k)))
-regroup false a b n k = refl
-regroup true false b n k = refl
-regroup true true false false k = refl
-regroup true true false true k = refl
-regroup true true true n k = refl
+  pub fills : (t .filled && none-empty ws′ (choice-of n m)) ≡ none-empty ws cs
+  pub waits : (t .waited && keeps-old old as′ (choice-of n m)) ≡ keeps-old old as″ cs
 
 part-le : (b : Bool) (w : ℕ) → cond b w 0 ≤ w
 part-le true w = omega arith
@@ -43,9 +37,10 @@ pub looking-more :
     Looking old ws as″ cs (w ∷ ws′) (a ∷ as′) (suc n) m t →
     u .weight ≡ t .weight + cond (odd (m / 2 ^ n)) w 0 →
     u .pans ≡ t .pans + bit (odd (m / 2 ^ n)) →
-    u .sound ≡ (t .sound && ((not (odd (m / 2 ^ n)) || leb 1 w) && (odd (m / 2 ^ n) || ltb a old))) →
+    u .filled ≡ (t .filled && (not (odd (m / 2 ^ n)) || leb 1 w)) →
+    u .waited ≡ (t .waited && (odd (m / 2 ^ n) || ltb a old)) →
     Looking old ws as″ cs ws′ as′ n m u
-looking-more old ws as″ cs w a ws′ as′ n m t u h weighs counts sound =
+looking-more old ws as″ cs w a ws′ as′ n m t u h weighs counts fills waits =
     record {
       left = omega arith;
       paired = omega arith;
@@ -54,7 +49,8 @@ looking-more old ws as″ cs w a ws′ as′ n m t u h weighs counts sound =
       fits = omega (arith, h .light 0, part-le (odd (m / 2 ^ n)) w);
       weighs = omega (arith, h .weighs);
       counts = omega (arith, h .counts);
-      sound = rw (sound, regroup) (h .sound);
+      fills = rw (fills, and-assoc) (h .fills);
+      waits = rw (waits, and-assoc) (h .waits);
     }
 
 -- no pan is left
@@ -64,7 +60,7 @@ pub looking-all :
 looking-all {old = old} {ws = ws} {as″ = as″} {cs = cs} {m = m} {t = t} h e f = ends _ _ _ e f h
   where
     ends : (ws′ as′ : List ℕ) (n : ℕ) → ws′ ≡ [] → as′ ≡ [] → Looking old ws as″ cs ws′ as′ n m t → Tallied ws as″ old cs t
-    ends [] [] zero e f h = record { weighs = omega (arith, h .weighs); counts = omega (arith, h .counts); sound = sym (and-true (t .sound)) ∙ h .sound }
+    ends [] [] zero e f h = record { weighs = omega (arith, h .weighs); counts = omega (arith, h .counts); fills = sym (and-true (t .filled)) ∙ h .fills; waits = sym (and-true (t .waited)) ∙ h .waits }
     ends [] [] (suc n) e f h = absurd (omega (arith, h .left))
     ends [] (a ∷ as′) n e f h = absurd (omega (arith, h .paired))
     ends (w ∷ ws′) as′ n e f h = absurd (omega (arith, ap length e))
@@ -75,11 +71,12 @@ pub looking-next :
     Looking old ws as″ cs ws₁ as₁ n m t → ws₁ ≡ w ∷ ws′ → as₁ ≡ a ∷ as′ →
     u .weight ≡ t .weight + cond (odd (m / 2 ^ (n - 1))) w 0 →
     u .pans ≡ t .pans + bit (odd (m / 2 ^ (n - 1))) →
-    u .sound ≡ (t .sound && ((not (odd (m / 2 ^ (n - 1))) || leb 1 w) && (odd (m / 2 ^ (n - 1)) || ltb a old))) →
+    u .filled ≡ (t .filled && (not (odd (m / 2 ^ (n - 1))) || leb 1 w)) →
+    u .waited ≡ (t .waited && (odd (m / 2 ^ (n - 1)) || ltb a old)) →
     Looking old ws as″ cs ws′ as′ (n - 1) m u
-looking-next {n = zero} h e f weighs counts sound = absurd (omega (arith, h .left, ap length e))
-looking-next {n = suc n} h e f weighs counts sound =
-    rw (less n) (looking-more _ _ _ _ _ _ _ _ n _ _ _ (rw (e, f) at h) (rw (less n) at weighs) (rw (less n) at counts) (rw (less n) at sound))
+looking-next {n = zero} h e f weighs counts fills waits = absurd (omega (arith, h .left, ap length e))
+looking-next {n = suc n} h e f weighs counts fills waits =
+    rw (less n) (looking-more _ _ _ _ _ _ _ _ n _ _ _ (rw (e, f) at h) (rw (less n) at weighs) (rw (less n) at counts) (rw (less n) at fills) (rw (less n) at waits))
 
 -- what lies in the next pan, and the tally with it, stay in range
 pub looking-room :

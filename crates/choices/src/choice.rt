@@ -29,7 +29,7 @@ pub fn fits(ring: Ring, choice: u32) -> bool
     (rule.target <= seen.weight)
         & (seen.weight <= rule.target + rule.above)
         & (seen.pans <= rule.pans)
-        & seen.sound
+        & (seen.filled & seen.waited)
 }
 
 // The number that is answered for a choice: 2 to the power of each opened pan's number, added.

@@ -9,19 +9,21 @@ ghost use mathlib.Core.Bool.{_&&_, _||_, cond, not};
 ghost use mathlib.Core.Path.{_≡_};
 use crate::ring::Ring;
 
-// What the opened pans weigh, how many they are, and whether no opened pan is empty and no pan that has to be opened is shut.
+// What the opened pans weigh, how many they are, whether none of them is empty, and whether every pan that has waited too long is among them.
 #[derive(Clone, Copy)]
 pub struct Tally {
     pub weight: u32,
     pub pans: u32,
-    pub sound: bool,
+    pub filled: bool,
+    pub waited: bool,
 }
 
 impl Tally {
-    pub const NOTHING: Tally = Tally {
+    const NOTHING: Tally = Tally {
         weight: 0,
         pans: 0,
-        sound: true,
+        filled: true,
+        waited: true,
     };
 
     // The tally with one pan more, of which is known whether it may wait on and whether it is opened.
@@ -29,17 +31,19 @@ impl Tally {
         requires { ⌜ self .weight + weight < 2 ^ 32 ⌝ ∗ ⌜ self .pans + 1 < 2 ^ 32 ⌝ }
         ensures weighs { λ r. ⌜ r .weight ≡ self .weight + cond opened weight 0 ⌝ }
         ensures counts { λ r. ⌜ r .pans ≡ self .pans + bit opened ⌝ }
-        ensures sound { λ r. ⌜ r .sound ≡ (self .sound && ((not opened || leb 1 weight) && (opened || «may_wait»))) ⌝ }
+        ensures fills { λ r. ⌜ r .filled ≡ (self .filled && (not opened || leb 1 weight)) ⌝ }
+        ensures waits { λ r. ⌜ r .waited ≡ (self .waited && (opened || «may_wait»)) ⌝ }
     {
         if opened {
             Tally {
                 weight: self.weight + weight,
                 pans: self.pans + 1,
-                sound: self.sound & (weight >= 1),
+                filled: self.filled & (weight >= 1),
+                ..self
             }
         } else {
             Tally {
-                sound: self.sound & may_wait,
+                waited: self.waited & may_wait,
                 ..self
             }
         }

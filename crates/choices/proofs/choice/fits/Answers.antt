@@ -10,4 +10,4 @@ pub returns : need.returns
 returns c =
     let h = c .look-seen .ensures in
     let ws = c .args .ring .weights .now in
-    rw (h .weighs, h .counts, h .sound) (fits-is (c .args .ring .rule) ws (c .args .ring .ages .now) (choice-of (length ws) (c .args .choice)) (length-choice-of (length ws) (c .args .choice)))
+    rw (h .weighs, h .counts, h .fills, h .waits) (fits-is (c .args .ring .rule) ws (c .args .ring .ages .now) (choice-of (length ws) (c .args .choice)) (length-choice-of (length ws) (c .args .choice)))
