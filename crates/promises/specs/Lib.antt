@@ -1,0 +1,3 @@
+-- The definitions and statements that contracts cite.
+pub mod Rows
+pub mod Promises
