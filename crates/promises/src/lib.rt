@@ -1,4 +1,5 @@
 // What is promised of every ring and every row of bags, each promise asked for by a function's contract.
+ghost use Rattle.promises.specs.Examples.{Empty-and-old, Fewer-pans, First-pair};
 ghost use Rattle.promises.specs.Promises.{Bags-weigh-enough, Looser-is-lighter, No-pan-waits-too-long, Nothing-lost, One-best-or-none, Rows-lose-nothing};
 
 // Either one choice is best, and only one, or no choice fits.
@@ -25,4 +26,11 @@ pub fn no_pan_waits_too_long()
 // So many bags weigh at least so many targets, and at most so many times what may be above more.
 pub fn bags_weigh_enough()
     ensures { λ _. ⌜ Bags-weigh-enough ⌝ }
+{}
+
+// Three rings worked out by hand hold of the definitions.
+pub fn worked_examples()
+    ensures pair { λ _. ⌜ First-pair ⌝ }
+    ensures fewer { λ _. ⌜ Fewer-pans ⌝ }
+    ensures none { λ _. ⌜ Empty-and-old ⌝ }
 {}
