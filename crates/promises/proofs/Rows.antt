@@ -12,7 +12,7 @@ use Rattle.choices.specs.Choice.{Choice, weight-of, keeps-old, fits, marked, em
 use Rattle.choices.specs.declared.rule.Rule.{Rule}
 use Rattle.choices.proofs.Choices.{fitting}
 use Rattle.packing.specs.Entry.{Made}
-use Rattle.promises.specs.Rows.{total, Stand, Falls, done, keeps, takes, Bags, stop, next}
+use Rattle.promises.specs.Rows.{total, Stand, Falls, done, keeps, takes, Bags, start, next}
 use Rattle.promises.specs.Promises.{Nothing-lost, Young, No-pan-waits-too-long, Bags-weigh-enough, Rows-lose-nothing}
 
 pub nothing-lost : Nothing-lost
@@ -50,25 +50,30 @@ pub made-paired : {r : Rule} {ws as′ ws₁ as₁ ws₂ : List ℕ} {p w f : �
 made-paired {ws = ws} {as′ = as′} e m h =
     ap length (m .ages) ∙ length-marked _ as′ (m .choice) ∙ e ∙ sym (length-falls h ∙ ap length (m .empties) ∙ length-marked _ ws (m .choice))
 
-pub no-pan-waits-too-long : No-pan-waits-too-long
-no-pan-waits-too-long r s t n w f e y (stop s′) = y
-no-pan-waits-too-long r s t n w f e y (next m h b) = no-pan-waits-too-long r _ t _ _ _ (made-paired e m h) (made-young e m) b
+-- there stays an age for each pan
+pub bags-paired : {r : Rule} {s t : Stand} {n w f : ℕ} → length (s .ages) ≡ length (s .weights) → Bags r s t n w f → length (t .ages) ≡ length (t .weights)
+bags-paired e start = e
+bags-paired e (next b m h) = made-paired (bags-paired e b) m h
 
-falls-total : {ws vs : List ℕ} {f : ℕ} → Falls ws vs f → total ws + f ≡ total vs
+pub no-pan-waits-too-long : No-pan-waits-too-long
+no-pan-waits-too-long r s t n w f e y start = y
+no-pan-waits-too-long r s t n w f e y (next b m h) = made-young (bags-paired e b) m
+
+pub falls-total : {ws vs : List ℕ} {f : ℕ} → Falls ws vs f → total ws + f ≡ total vs
 falls-total done = refl
 falls-total (keeps w h) = omega (arith, falls-total h)
 falls-total (takes w h) = omega (arith, falls-total h)
 
 pub rows-lose-nothing : Rows-lose-nothing
-rows-lose-nothing r s t n w f (stop s′) = omega arith
-rows-lose-nothing r s t n w f (next m h b) =
-    omega (arith, rows-lose-nothing r _ t _ _ _ b, falls-total h, m .weighs, ap total (m .empties), nothing-lost (s .weights) (m .choice))
+rows-lose-nothing r s t n w f start = omega arith
+rows-lose-nothing r s t n w f (next {t = u} b m h) =
+    omega (arith, rows-lose-nothing r s u _ _ _ b, falls-total h, m .weighs, ap total (m .empties), nothing-lost (u .weights) (m .choice))
 
 pub bags-weigh-enough : Bags-weigh-enough
-bags-weigh-enough r s t n w f (stop s′) = (omega arith, omega arith)
-bags-weigh-enough r s t n w f (next {n = k} m h b) =
-    let i = fitting r (s .weights) (s .ages) (m .choice) (m .best .allowed) in
-    let rest = bags-weigh-enough r _ t _ _ _ b in (
+bags-weigh-enough r s t n w f start = (omega arith, omega arith)
+bags-weigh-enough r s t n w f (next {t = u} {n = k} b m h) =
+    let i = fitting r (u .weights) (u .ages) (m .choice) (m .best .allowed) in
+    let rest = bags-weigh-enough r s u _ _ _ b in (
       omega (arith, suc-mul k (r .target), m .weighs, i .enough, rest .0),
       omega (arith, suc-mul k (r .target + r .above), m .weighs, i .within, rest .1),
     )

@@ -21,9 +21,9 @@ pub data Falls : (before after : List ℕ) (grams : ℕ) → Type 0 where
   keeps : {ws vs : List ℕ} {f : ℕ} (w : ℕ) → Falls ws vs f → Falls (w ∷ ws) (w ∷ vs) f
   takes : {ws vs : List ℕ} {f : ℕ} (w : ℕ) → Falls ws vs f → Falls (0 ∷ ws) (w ∷ vs) (w + f)
 
-pub data Bags (r : Rule) : (from to : Stand) (bags weight fell : ℕ) → Type 0 where
-  stop : (s : Stand) → Bags r s s 0 0 0
+pub data Bags (r : Rule) (from : Stand) : (to : Stand) (bags weight fell : ℕ) → Type 0 where
+  start : Bags r from from 0 0 0
   next :
-      {s t : Stand} {p w n v f g : ℕ} {ws₁ as₁ ws₂ : List ℕ} →
-      Made r (s .weights) (s .ages) p w ws₁ as₁ → Falls ws₁ ws₂ f → Bags r (record { weights = ws₂; ages = as₁ }) t n v g →
-      Bags r s t (suc n) (w + v) (f + g)
+      {t : Stand} {p w n v f g : ℕ} {ws₁ as₁ ws₂ : List ℕ} →
+      Bags r from t n v g → Made r (t .weights) (t .ages) p w ws₁ as₁ → Falls ws₁ ws₂ f →
+      Bags r from (record { weights = ws₂; ages = as₁ }) (suc n) (v + w) (g + f)
