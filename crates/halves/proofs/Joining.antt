@@ -1,0 +1,110 @@
+-- A choice of all pans is a choice of each half: its place, its count and its ways come together.
+use mathlib.Core.Path.{_≡_, refl, sym, _∙_, ap, ap₂}
+use mathlib.Core.Bool.{Bool, true, false, cond, _&&_}
+use mathlib.Core.List.{List, [], _∷_, _++_}
+use mathlib.Core.Logic.{_⊎_, inl, inr, ⊎-elim}
+use Prim.Native.Nat.{ℕ, zero, suc, _+_, _*_, _-_, _^_, _≤_, _<_}
+use native.Mathlib.Omega.{arith}
+use lib.ListN.{length, getD, take, drop}
+use lib.Pow.{pow-mono}
+use Rattle.std.proofs.shelf.Tests.{and-parts, and-from, both-ways, cases-lt}
+use Rattle.std.proofs.shelf.Lists.{length-append, take-append-drop, getD-take, getD-past, length-take-le, length-take}
+use Rattle.choices.specs.Choice.{Choice, bit, opened}
+use Rattle.halves.specs.Place.{by-ways, place, pans-in}
+use Rattle.halves.specs.Entries.{Rises, Holds}
+use Rattle.halves.specs.Half.{Half}
+use Rattle.halves.specs.Sweep.{Few, Pair, Least-sum}
+use Rattle.halves.specs.Next.{Allowed, First}
+use Rattle.halves.specs.declared.way.Way.{Way}
+use Rattle.halves.proofs.Places.{length-by-ways, pans-in-place, place-below}
+
+pub by-ways-join : (us vs : List Way) (cs ds : Choice) → by-ways us cs ≡ true → by-ways vs ds ≡ true → by-ways (us ++ vs) (cs ++ ds) ≡ true
+by-ways-join [] vs [] ds a b = b
+by-ways-join [] vs (c ∷ cs) ds a b = absurd (both-ways false refl a)
+by-ways-join (u ∷ us) vs [] ds a b = absurd (both-ways false refl a)
+by-ways-join (u ∷ us) vs (c ∷ cs) ds a b = let h = and-parts (cond c (u .opens) (u .stays)) (by-ways us cs) a in and-from _ _ (h .0) (by-ways-join us vs cs ds (h .1) b)
+
+-- the part of a choice in each half
+pub record Parted (us vs : List Way) (es : Choice) : Type 0 where
+  pub front : Choice
+  pub back : Choice
+  pub whole : es ≡ front ++ back
+  pub front-ways : by-ways us front ≡ true
+  pub back-ways : by-ways vs back ≡ true
+
+pub parted : (us vs : List Way) (es : Choice) → by-ways (us ++ vs) es ≡ true → Parted us vs es
+parted [] vs es h = record { front = []; back = es; whole = refl; front-ways = refl; back-ways = h }
+parted (u ∷ us) vs [] h = absurd (both-ways false refl h)
+parted (u ∷ us) vs (e ∷ es) h =
+    let k = and-parts (cond e (u .opens) (u .stays)) (by-ways (us ++ vs) es) h in
+    let p = parted us vs es (k .1) in
+    record { front = e ∷ p .front; back = p .back; whole = ap (λ (x : Choice). e ∷ x) (p .whole); front-ways = and-from _ _ (k .0) (p .front-ways); back-ways = p .back-ways }
+
+pub opened-join : (cs ds : Choice) → opened (cs ++ ds) ≡ opened cs + opened ds
+opened-join [] ds = omega arith
+opened-join (c ∷ cs) ds = omega (arith, opened-join cs ds)
+
+pub place-join : (us ws : List ℕ) (cs ds : Choice) → length cs ≡ length us → length ds ≡ length ws → place 0 (us ++ ws) (cs ++ ds) ≡ place (length ws) us cs + place 0 ws ds
+place-join [] ws [] ds a b = omega arith
+place-join [] ws (c ∷ cs) ds a b = absurd (omega arith)
+place-join (u ∷ us) ws [] ds a b = absurd (omega arith)
+place-join (u ∷ us) ws (true ∷ cs) ds a b = omega (arith, place-join us ws cs ds (omega arith) b)
+place-join (u ∷ us) ws (false ∷ cs) ds a b =
+    let e : 2 ^ (0 + length (cs ++ ds)) ≡ 2 ^ (length ws + length cs) = ap (λ (m : ℕ). 2 ^ m) (omega (arith, length-append cs ds)) in
+    omega (arith, place-join us ws cs ds (omega arith) b)
+
+-- both halves in order, whole
+module _ (us ws : List ℕ) (ups vs : List Way) (limit to : ℕ) (fs bs : List ℕ) (front-paired : length ups ≡ length us) (back-paired : length vs ≡ length ws) (few : length us + length ws ≤ 24) (front : Half (length ws) 0 limit to us ups fs (length fs)) (back : Half 0 0 limit to ws vs bs (length bs)) where
+  front-pans : (cs : Choice) → by-ways ups cs ≡ true → pans-in (place (length ws) us cs + 0) ≡ opened cs
+  front-pans cs h =
+      let k : 2 ^ (length ws + length us) ≤ 2 ^ 24 = pow-mono {j = 24} (omega arith) in
+      pans-in-place (length ws) 0 us cs (length-by-ways ups cs h ∙ front-paired) (omega arith) (omega arith)
+
+  back-pans : (ds : Choice) → by-ways vs ds ≡ true → pans-in (place 0 ws ds + 0) ≡ opened ds
+  back-pans ds h =
+      let k : 2 ^ (0 + length ws) ≤ 2 ^ 24 = pow-mono {j = 24} (omega arith) in
+      pans-in-place 0 0 ws ds (length-by-ways vs ds h ∙ back-paired) (omega arith) (omega arith)
+
+  pub least-of : (from x : ℕ) → Least-sum (Few limit) fs bs from to x → (es : Choice) → Allowed limit (us ++ ws) (ups ++ vs) from es → x ≤ place 0 (us ++ ws) es
+  least-of from x h es a = ⊎-elim below (λ l. omega (arith, h .high)) (cases-lt (place 0 (us ++ ws) es) to)
+    where
+      p : Parted ups vs es
+      p = parted ups vs es (a .ways)
+
+      joined : place 0 (us ++ ws) es ≡ place (length ws) us (p .front) + place 0 ws (p .back)
+      joined = ap (place 0 (us ++ ws)) (p .whole) ∙ place-join us ws (p .front) (p .back) (length-by-ways ups _ (p .front-ways) ∙ front-paired) (length-by-ways vs _ (p .back-ways) ∙ back-paired)
+
+      counted : opened (p .front) + opened (p .back) ≤ limit
+      counted = omega (arith, a .few, ap opened (p .whole), opened-join (p .front) (p .back))
+
+      below : place 0 (us ++ ws) es < to → x ≤ place 0 (us ++ ws) es
+      below l =
+          let f : Holds fs (length fs) (place (length ws) us (p .front) + 0) = front .every (p .front) (p .front-ways) (omega (arith, counted)) (omega (arith, joined)) in
+          let b : Holds bs (length bs) (place 0 ws (p .back) + 0) = back .every (p .back) (p .back-ways) (omega (arith, counted)) (omega (arith, joined)) in
+          omega (arith, joined, f .2, b .2, h .least (f .0) (b .0) (f .1) (b .1) (omega (arith, counted, ap pans-in (f .2), ap pans-in (b .2), front-pans _ (p .front-ways), back-pans _ (p .back-ways))) (omega (arith, joined, f .2, b .2, a .enough)))
+
+  pub first-of : (from x : ℕ) → x < to → Least-sum (Few limit) fs bs from to x → First limit (us ++ ws) (ups ++ vs) from to x
+  first-of from x l h =
+      record {
+        choice = f .0 ++ b .0;
+        allowed = record {
+          ways = by-ways-join ups vs (f .0) (b .0) (f .1) (b .1);
+          few = omega (arith, opened-join (f .0) (b .0), pair .right, ap pans-in (f .2), ap pans-in (b .2), front-pans _ (f .1), back-pans _ (b .1));
+          enough = omega (arith, joined, pair .enough);
+        };
+        at = joined;
+        below = l;
+        least = least-of from x h;
+      }
+    where
+      pair : Pair (Few limit) fs bs from x
+      pair = h .found l
+
+      f : (cs : Choice) × (by-ways ups cs ≡ true) × (place (length ws) us cs + 0 ≡ getD fs (pair .p) 0)
+      f = front .only (pair .p) (pair .front)
+
+      b : (cs : Choice) × (by-ways vs cs ≡ true) × (place 0 ws cs + 0 ≡ getD bs (pair .q) 0)
+      b = back .only (pair .q) (pair .back)
+
+      joined : place 0 (us ++ ws) (f .0 ++ b .0) ≡ x
+      joined = place-join us ws (f .0) (b .0) (length-by-ways ups _ (f .1) ∙ front-paired) (length-by-ways vs _ (b .1) ∙ back-paired) ∙ omega (arith, f .2, b .2, pair .adds)

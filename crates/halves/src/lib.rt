@@ -1,0 +1,22 @@
+// The best bag by two halves of the pans: the choices of each half in order, and a sweep over both.
+mod answer;
+mod filled;
+mod grow;
+mod half;
+mod halves;
+mod pans;
+mod place;
+mod sweep;
+mod way;
+
+pub use answer::best;
+pub use filled::Halves;
+pub use halves::ROOM;
+pub use halves::fill;
+pub use halves::next;
+pub use halves::room_for;
+pub use pans::Pans;
+pub use place::bag_in;
+pub use place::pans_in;
+pub use place::weight_in;
+pub use way::Way;
