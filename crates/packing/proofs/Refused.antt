@@ -12,7 +12,7 @@ use Rattle.std.specs.declared.option.Option.the-variants.{Some, None}
 use Rattle.std.proofs.shelf.Tests.{leb-true, eqb-true, eq-eqb, and-parts, lt-leb, le-leb}
 use Rattle.packing.specs.Laws.{Refusals-are-exact}
 use Rattle.packing.specs.declared.refusal.Refusal.the-variants.{Rule as Rule-refused, Pans, Number}
-use Rattle.packing.specs.Refusals.{Accepted, or-else, first-above, rule-fault, pans-fault, first-refusal}
+use Rattle.packing.specs.Refusals.{Accepted, Ready, rule-in, or-else, first-above, rule-fault, pans-fault, first-refusal}
 
 pub first-above-append : (m i : ℕ) (xs ys : List ℕ) → first-above m i (xs ++ ys) ≡ or-else (first-above m i xs) (first-above m (i + length xs) ys)
 first-above-append m i [] ys = ap (λ (k : ℕ). first-above m k ys) {y = i + 0} (omega arith)
@@ -107,3 +107,19 @@ refusals-are-exact rs ws as′ = (gives, takes)
           none-below 1000000 0 ws (a .light),
           none-below 1000000 (0 + length ws) as′ (a .young),
         )
+
+-- what is accepted is in order
+pub ready : {rs ws as′ : List ℕ} → Accepted rs ws as′ → Ready (rule-in rs) ws as′
+ready a =
+    record {
+      some = a .some;
+      target = a .small 0;
+      above = a .small 1;
+      pans = a .small 2;
+      age = a .small 3;
+      present = a .present;
+      few = a .few;
+      paired = a .paired;
+      light = a .light;
+      young = a .young;
+    }

@@ -11,9 +11,10 @@ use Rattle.choices.specs.Choice.{Choice, fits, weight-of, emptied, aged}
 use Rattle.choices.specs.Numbered.{number-of}
 use Rattle.choices.specs.declared.rule.Rule.{Rule}
 use Rattle.order.specs.Order.{Best-of, None-of}
-use Rattle.packing.specs.Refusals.{refusal-number, first-refusal, rule-in}
+use Rattle.order.specs.declared.bag.Bag.{Bag}
+use Rattle.packing.specs.Refusals.{refusal-number}
 use Rattle.packing.specs.declared.entry.Done.{Done}
-use Rattle.packing.specs.declared.entry.Done.the-variants.{Bag, None as Nothing, Refused}
+use Rattle.packing.specs.declared.entry.Done.the-variants.{Bag as Bagged, None as Nothing, Refused}
 use Rattle.packing.specs.declared.refusal.Refusal.{Refusal}
 
 pub record Made (r : Rule) (ws as′ : List ℕ) (p w : ℕ) (ws₁ as₁ : List ℕ) : Type 0 where
@@ -28,11 +29,20 @@ pub record Same (ws as′ ws₁ as₁ : List ℕ) : Type 0 where
   pub weights : ws₁ ≡ ws
   pub ages : as₁ ≡ as′
 
--- with nothing to turn away, the entry answers a bag or that there is none
+-- a bag is made of pans that are in order, or there is none and nothing changes
+abbrev pub Packs : Rule → (ws as′ : List ℕ) → Option Bag → (ws₁ as₁ : List ℕ) → Type 0
+Packs r ws as′ None ws₁ as₁ = None-of (fits r ws as′) × Same ws as′ ws₁ as₁
+Packs r ws as′ (Some b) ws₁ as₁ = Made r ws as′ (b .pans) (b .weight) ws₁ as₁
+
+-- the same as the entry answers it
 abbrev pub Packed : Rule → (ws as′ : List ℕ) → Done → (ws₁ as₁ : List ℕ) → Type 0
-Packed r ws as′ (Bag p w) ws₁ as₁ = Made r ws as′ p w ws₁ as₁
+Packed r ws as′ (Bagged p w) ws₁ as₁ = Made r ws as′ p w ws₁ as₁
 Packed r ws as′ Nothing ws₁ as₁ = None-of (fits r ws as′) × Same ws as′ ws₁ as₁
 Packed r ws as′ (Refused n) ws₁ as₁ = ⊥
+
+abbrev pub done-of : Option Bag → Done
+done-of None = Nothing
+done-of (Some b) = Bagged (b .pans) (b .weight)
 
 abbrev pub Answered : Option Refusal → Rule → (ws as′ : List ℕ) → Done → (ws₁ as₁ : List ℕ) → Type 0
 Answered None r ws as′ d ws₁ as₁ = Packed r ws as′ d ws₁ as₁

@@ -1,17 +1,25 @@
 // What is turned away, and where.
 ghost use Prim.Native.Nat.{_+_, _^_, _<_, _≤_};
-ghost use Rattle.packing.specs.Refusals.{Accepted, first-above, first-refusal, pans-fault, refusal-number, refusal-place, rule-fault};
+ghost use Rattle.packing.specs.Refusals.{Accepted, first-above, first-refusal, pans-fault, refusal-number, refusal-place, room-refusal, rule-fault};
 ghost use Rattle.std.specs.declared.option.Option.the-variants.{None};
 ghost use lib.ListN.{length};
 ghost use mathlib.Core.List.{_++_};
 ghost use mathlib.Core.Path.{_≡_};
+use halves::room_for;
 
-// Each with its place, counted from 0: which number of the rule, how many pans or ages, or which weight or age, ages after weights.
+// Each with its place, counted from 0.
 #[derive(Clone, Copy)]
 pub enum Refusal {
+    // Which number of the rule.
     Rule(u64),
+    // How many pans or ages.
     Pans(u64),
+    // Which weight or age, ages after weights.
     Number(u64),
+    // The line of a text that can't be read.
+    Line(u64),
+    // How many entries the room has to have.
+    Room(u64),
 }
 
 impl Refusal {
@@ -23,6 +31,8 @@ impl Refusal {
             Refusal::Rule(_) => 1,
             Refusal::Pans(_) => 2,
             Refusal::Number(_) => 3,
+            Refusal::Line(_) => 4,
+            Refusal::Room(_) => 5,
         }
     }
 
@@ -33,6 +43,8 @@ impl Refusal {
             Refusal::Rule(place) => place,
             Refusal::Pans(count) => count,
             Refusal::Number(place) => place,
+            Refusal::Line(line) => line,
+            Refusal::Room(entries) => entries,
         }
     }
 }
@@ -109,5 +121,26 @@ pub fn turned_away(rule: &[u32], weights: &[u32], ages: &[u32]) -> Option<Refusa
     match number_fault(weights, ages) {
         Some(place) => Some(Refusal::Number(place)),
         None => None,
+    }
+}
+
+// The first refusal that applies to an entry over a room of so many entries.
+pub fn turned_away_in(
+    rule: &[u32],
+    weights: &[u32],
+    ages: &[u32],
+    entries: usize,
+) -> Option<Refusal>
+    ensures value { λ r. ⌜ r ≡ room-refusal (now (rule .entry)) (now (weights .entry)) (now (ages .entry)) entries ⌝ }
+    ensures taken { λ r. ⌜ (r ≡ None → Accepted (now (rule .entry)) (now (weights .entry)) (now (ages .entry))) ⌝ }
+{
+    if let Some(refusal) = turned_away(rule, weights, ages) {
+        return Some(refusal);
+    }
+    let takes = room_for(weights.len());
+    if entries < takes {
+        Some(Refusal::Room(takes as u64))
+    } else {
+        None
     }
 }

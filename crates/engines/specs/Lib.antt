@@ -1,0 +1,1 @@
+-- The engines need no definitions of their own.
