@@ -13,5 +13,6 @@ pub use laws::entries_agree;
 pub use laws::refusals_are_exact;
 pub use one_bag::pack;
 pub use refusal::Refusal;
+pub use refusal::first_above;
 pub use refusal::turned_away;
 pub use refusal::turned_away_in;

@@ -55,7 +55,7 @@ const LIMIT: u32 = 1_000_000;
 const PANS: usize = 24;
 
 // The place of the first number above the limit, counted from `from` on.
-fn first_above(numbers: &[u32], from: u64) -> Option<u64>
+pub fn first_above(numbers: &[u32], from: u64) -> Option<u64>
     requires { ⌜ from + length (now numbers) < 2 ^ 64 ⌝ }
     ensures { λ r. ⌜ r ≡ first-above 1000000 from (now (numbers .entry)) ⌝ }
 {

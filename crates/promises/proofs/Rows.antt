@@ -40,7 +40,7 @@ made-young {r} {ws} {as′} e m =
     let f = fitting r ws as′ (m .choice) (m .best .allowed) in
     rw (m .ages) (aged-young (r .age) as′ (m .choice) (f .whole ∙ sym e) (f .waited))
 
-length-falls : {ws vs : List ℕ} {f : ℕ} → Falls ws vs f → length vs ≡ length ws
+pub length-falls : {ws vs : List ℕ} {f : ℕ} → Falls ws vs f → length vs ≡ length ws
 length-falls done = refl
 length-falls (keeps w h) = ap suc (length-falls h)
 length-falls (takes w h) = ap suc (length-falls h)
