@@ -13,10 +13,10 @@ use Rattle.choices.specs.Choice.{Choice, bit, opened}
 use Rattle.halves.specs.Place.{by-ways, place, pans-in}
 use Rattle.halves.specs.Entries.{Rises, Holds}
 use Rattle.halves.specs.Half.{Half}
-use Rattle.halves.specs.Sweep.{Few, Pair, Least-sum}
+use Rattle.halves.specs.Sweep.{Apart, Few, Pair, Least-sum}
 use Rattle.halves.specs.Next.{Allowed, First}
 use Rattle.halves.specs.declared.way.Way.{Way}
-use Rattle.halves.proofs.Places.{length-by-ways, pans-in-place, place-below}
+use Rattle.halves.proofs.Places.{length-by-ways, pans-in-place, place-says}
 
 pub by-ways-join : (us vs : List Way) (cs ds : Choice) → by-ways us cs ≡ true → by-ways vs ds ≡ true → by-ways (us ++ vs) (cs ++ ds) ≡ true
 by-ways-join [] vs [] ds a b = b
@@ -64,6 +64,17 @@ module _ (us ws : List ℕ) (ups vs : List Way) (limit to : ℕ) (fs bs : List �
   back-pans ds h =
       let k : 2 ^ (0 + length ws) ≤ 2 ^ 24 = pow-mono {j = 24} (omega arith) in
       pans-in-place 0 0 ws ds (length-by-ways vs ds h ∙ back-paired) (omega arith) (omega arith)
+
+  pub counts-apart : Apart fs bs
+  counts-apart p q a b =
+      let f : (cs : Choice) × (by-ways ups cs ≡ true) × (place (length ws) us cs + 0 ≡ getD fs p 0) = front .only p a in
+      let g : (ds : Choice) × (by-ways vs ds ≡ true) × (place 0 ws ds + 0 ≡ getD bs q 0) = back .only q b in
+      let fl : length (f .0) ≡ length us = length-by-ways ups (f .0) (f .1) ∙ front-paired in
+      let gl : length (g .0) ≡ length ws = length-by-ways vs (g .0) (g .1) ∙ back-paired in
+      let sum : getD fs p 0 + getD bs q 0 ≡ place 0 (us ++ ws) (f .0 ++ g .0) = omega (arith, f .2, g .2, place-join us ws (f .0) (g .0) fl gl) in
+      let whole : pans-in (place 0 (us ++ ws) (f .0 ++ g .0)) ≡ opened (f .0 ++ g .0) =
+            place-says (us ++ ws) (f .0 ++ g .0) (omega (arith, length-append us ws)) (omega (arith, length-append us ws, length-append (f .0) (g .0))) .1 in
+      omega (arith, ap pans-in sum, whole, opened-join (f .0) (g .0), ap pans-in (f .2), ap pans-in (g .2), front-pans (f .0) (f .1), back-pans (g .0) (g .1))
 
   pub least-of : (from x : ℕ) → Least-sum (Few limit) fs bs from to x → (es : Choice) → Allowed limit (us ++ ws) (ups ++ vs) from es → x ≤ place 0 (us ++ ws) es
   least-of from x h es a = ⊎-elim below (λ l. omega (arith, h .high)) (cases-lt (place 0 (us ++ ws) es) to)

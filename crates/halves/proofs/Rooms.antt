@@ -11,12 +11,12 @@ use Rattle.choices.specs.Choice.{Choice}
 use Rattle.halves.specs.Place.{place}
 use Rattle.halves.specs.Entries.{Rises}
 use Rattle.halves.specs.Half.{Half}
-use Rattle.halves.specs.Sweep.{Few, Least-sum}
+use Rattle.halves.specs.Sweep.{Apart, Few, Least-sum}
 use borrow.Rule.Slice.PartMut.{putMid, postOf}
 use Rattle.halves.specs.Next.{room-for, Filled, Allowed, First}
 use Rattle.halves.specs.declared.filled.Halves.{Halves}
 use Rattle.halves.proofs.ByPan.{half-low}
-use Rattle.halves.proofs.Joining.{least-of, first-of}
+use Rattle.halves.proofs.Joining.{counts-apart, least-of, first-of}
 use Rattle.halves.specs.declared.way.Way.{Way}
 
 pub half-same :
@@ -107,6 +107,9 @@ module _ (ws : List ℕ) (vs : List Way) (room : List ℕ) (s : Halves) (at : �
 
   pub back-low : (p : ℕ) → p < length (take (at + s .back - at) (drop at room)) → getD (take (at + s .back - at) (drop at room)) p 0 < 2 ^ 62
   back-low = rw back-part (half-low _ _ _ _ _ _ _ _ back-paired (omega (arith, both-few)) (omega arith) (light-drop (length ws / 2) ws light) back-whole)
+
+  pub parts-apart : Apart (take (s .front - 0) room) (take (at + s .back - at) (drop at room))
+  parts-apart = rw (front-part, back-part) (counts-apart _ _ _ _ _ _ _ _ front-paired back-paired both-few front-whole back-whole)
 
   pub next-some : (from x : ℕ) → x < s .to → Least-sum (Few (s .limit)) (take (s .front - 0) room) (take (at + s .back - at) (drop at room)) from (s .to) x → First (s .limit) ws vs from (s .to) x
   next-some from x l found =

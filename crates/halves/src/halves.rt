@@ -6,7 +6,7 @@ ghost use mathlib.Core.Path.{_≡_};
 use crate::filled::Halves;
 use crate::half::half;
 use crate::pans::Pans;
-use crate::sweep::counted;
+use crate::sweep::least;
 
 // Room for 24 pans, which is the most that a ring has.
 pub const ROOM: usize = 8192;
@@ -66,6 +66,6 @@ pub fn next(pans: Pans, halves: Halves, room: &[u64], from: u64) -> Option<u64>
     let front = halves.front;
     let end = at + halves.back;
     let to = halves.to;
-    let found = counted(&room[0..front], &room[at..end], halves.limit, from, to);
+    let found = least(&room[0..front], &room[at..end], halves.limit, from, to);
     if found < to { Some(found) } else { None }
 }
