@@ -7,12 +7,17 @@ use native.Mathlib.Omega.{arith}
 use mathlib.Core.Bool.{true, false, _&&_}
 use lib.Dec.{leb}
 use lib.ListN.{length, getD, set}
+use Rattle.std.proofs.shelf.Bits.{mul-le}
 use Rattle.std.proofs.shelf.Lists.{getD-set-same, getD-set-other}
 use Rattle.std.proofs.shelf.Tests.{cases-eq, and-parts, and-from, both-ways, leb-true, le-leb}
 use Rattle.halves.specs.Place.{pans-in}
 use Rattle.halves.specs.Entries.{Rises, Holds}
 use Rattle.halves.specs.Half.{Kept, Sieved}
 use Rattle.halves.specs.declared.bounds.Bounds.{Bounds}
+
+-- what the pans that may be opened weigh at most
+pub most-small : (lim : Bounds) → lim .limit * lim .heaviest ≤ 4294967296 * 1000000
+most-small lim = mul-le (lim .limit) (lim .heaviest) 4294967296 1000000 (omega (arith, lim .few)) (lim .light)
 
 -- of the first i entries those that are kept are the first k
 pub record Sieving (lim : Bounds) (old es : List ℕ) (n i k : ℕ) : Type 0 where

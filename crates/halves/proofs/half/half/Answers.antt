@@ -38,7 +38,7 @@ grow-grown-requires c κs =
 pub thin-n-requires : need.thin-n-requires
 thin-n-requires c κs =
     let r = half-room (c .args .behind) (c .args .bounds) (c .args .weights .now) (c .args .ways .now) (c .pre .paired) (c .pre .few) (c .pre .heavy) (c .loop-k .k) _ _ (c .loop-k-test .taken) (omega arith) (omega (arith, c .pre .room, simp length-set at (c .loop-k .kept .es))) (c .loop-k .inv) in
-    record { room = omega (arith, r, c .grow-grown .ensures .few, c .grow-grown .kept .es); rises = c .grow-grown .ensures .rises }
+    record { room = omega (arith, r, c .grow-grown .ensures .few, c .grow-grown .kept .es); rises = c .grow-grown .ensures .rises; few = omega (arith, c .pre .few) }
 
 pub loop-k-again : need.loop-k-again
 loop-k-again c =
