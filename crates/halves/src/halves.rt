@@ -23,10 +23,17 @@ fn cut(pans: usize) -> usize
 // How many entries the halves of so many pans take.
 pub fn room_for(pans: usize) -> usize
     requires { ⌜ pans ≤ 24 ⌝ }
-    ensures value { λ r. ⌜ r ≡ room-for pans ⌝ }
-    ensures enough { λ r. ⌜ r ≤ 8192 ⌝ }
+    ensures { λ r. ⌜ r ≡ room-for pans ⌝ }
 {
     cut(pans) + cut(pans + 1)
+}
+
+// The room for 24 pans, which is enough for every ring.
+pub fn full_room() -> usize
+    ensures value { λ r. ⌜ r ≡ room-for 24 ⌝ }
+    ensures enough { λ r. ⌜ ((n : ℕ) → n ≤ 24 → room-for n ≤ r) ⌝ }
+{
+    ROOM
 }
 
 // What lies in the heaviest pan.

@@ -16,6 +16,7 @@ pub use bounds::Bounds;
 pub use filled::Halves;
 pub use halves::ROOM;
 pub use halves::fill;
+pub use halves::full_room;
 pub use halves::next;
 pub use halves::room_for;
 pub use pans::Pans;
