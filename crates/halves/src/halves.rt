@@ -23,7 +23,8 @@ fn cut(pans: usize) -> usize
 // How many entries the halves of so many pans take.
 pub fn room_for(pans: usize) -> usize
     requires { ⌜ pans ≤ 24 ⌝ }
-    ensures { λ r. ⌜ r ≡ room-for pans ⌝ }
+    ensures value { λ r. ⌜ r ≡ room-for pans ⌝ }
+    ensures enough { λ r. ⌜ r ≤ 8192 ⌝ }
 {
     cut(pans) + cut(pans + 1)
 }
