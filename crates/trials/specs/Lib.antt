@@ -1,0 +1,1 @@
+-- The trials need no definitions of their own.
