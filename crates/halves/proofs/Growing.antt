@@ -22,25 +22,25 @@ pub opening-none : (to : ℕ) (v : Way) (gain : ℕ) (es : List ℕ) (n : ℕ) �
 opening-none to v gain es n o = record { few = omega arith; opens = λ k. absurd (omega arith); all = λ e p l b. absurd (both-ways _ o e) }
 
 pub grown-both :
-    (limit to : ℕ) (v : Way) (gain : ℕ) (old es : List ℕ) (n m : ℕ) → Opening to v gain old n m → v .stays ≡ true →
-    Merged old es n m gain → Grown limit to v gain old es n (n + m)
-grown-both limit to v gain old es n m o s h =
+    (to : ℕ) (v : Way) (gain : ℕ) (old es : List ℕ) (n m : ℕ) → Opening to v gain old n m → v .stays ≡ true →
+    Merged old es n m gain → Grown to v gain old es n (n + m)
+grown-both to v gain old es n m o s h =
     record {
       few = omega (arith, o .few);
       rises = h .rises;
-      keeps = λ _ p l _. h .keeps p l;
-      adds = λ e p l _ b. h .adds p (o .all e p l b);
+      keeps = λ _ p l. h .keeps p l;
+      adds = λ e p l b. h .adds p (o .all e p l b);
       only = λ q l. ⊎-elim (λ k. inl (s, k)) (λ k. inr (o .opens (omega (arith, k .1)), (k .0, omega (arith, k .1, o .few), k .2))) (h .only q l);
     }
 
 pub grown-opened :
-    (limit to : ℕ) (v : Way) (gain : ℕ) (old es : List ℕ) (n m : ℕ) → Opening to v gain old n m → v .stays ≡ false → Rises old n →
-    ((p : ℕ) → p < m → getD es p 0 ≡ getD old p 0 + gain) → Grown limit to v gain old es n m
-grown-opened limit to v gain old es n m o s rises h =
+    (to : ℕ) (v : Way) (gain : ℕ) (old es : List ℕ) (n m : ℕ) → Opening to v gain old n m → v .stays ≡ false → Rises old n →
+    ((p : ℕ) → p < m → getD es p 0 ≡ getD old p 0 + gain) → Grown to v gain old es n m
+grown-opened to v gain old es n m o s rises h =
     record {
       few = omega (arith, o .few);
       rises = λ p q a l. omega (arith, h p (omega arith), h q l, rises p q a (omega (arith, o .few)));
       keeps = λ e. absurd (both-ways _ s e);
-      adds = λ e p l _ b. (p, o .all e p l b, h p (o .all e p l b));
+      adds = λ e p l b. (p, o .all e p l b, h p (o .all e p l b));
       only = λ q l. inr (o .opens (omega arith), (q, omega (arith, o .few), sym (h q l)));
     }

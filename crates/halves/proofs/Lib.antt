@@ -6,4 +6,5 @@ mod Joining
 mod Merging
 pub mod Places
 mod Rooms
+mod Sieving
 mod Sweeping

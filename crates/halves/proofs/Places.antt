@@ -5,7 +5,7 @@ use mathlib.Core.List.{List, [], _∷_, _++_}
 use mathlib.Core.Logic.{_⊎_, inl, inr, ⊎-elim}
 use Prim.Native.Nat.{ℕ, zero, suc, _+_, _*_, _-_, _/_, _%_, _^_, _≤_, _<_}
 use native.Mathlib.Omega.{arith}
-use native.Mathlib.Nat.{pow-succ'}
+use native.Mathlib.Nat.{pow-succ', add-mul}
 use native.Mathlib.Numerals.{add-one}
 use lib.ListN.{length, getD}
 use lib.Dec.{ltb, eqb}
@@ -59,11 +59,13 @@ digits w o s h l = (omega arith, omega arith, omega arith)
 pub shut-le : (b : ℕ) (cs : Choice) → b + length cs < 24 → 2 ^ (b + length cs) ≤ 2 ^ 24
 shut-le b cs h = omega (arith, pow-below (b + length cs) 24 h)
 
-pub pans-in-place : (b r : ℕ) (ws : List ℕ) (cs : Choice) → length cs ≡ length ws → length ws ≤ 24 → r + 2 ^ (b + length ws) ≤ 2 ^ 24 → pans-in (place b ws cs + r) ≡ opened cs
-pans-in-place b r ws cs e few h =
+-- what the place of some pans says of them, with r below
+pub in-place : (b r : ℕ) (ws : List ℕ) (cs : Choice) → length cs ≡ length ws → length ws ≤ 24 → r + 2 ^ (b + length ws) ≤ 2 ^ 24 → ((place b ws cs + r) / 2 ^ 29 ≡ weight-of ws cs) × (pans-in (place b ws cs + r) ≡ opened cs)
+in-place b r ws cs e few h =
     let s : shut b cs + r < 2 ^ 24 = omega (arith, shut-below b cs, ap (λ (n : ℕ). 2 ^ (b + n)) e) in
     let d : place b ws cs + r ≡ weight-of ws cs * 2 ^ 29 + opened cs * 2 ^ 24 + (shut b cs + r) = omega (arith, place-is b ws cs e) in
-    rw d (digits (weight-of ws cs) (opened cs) (shut b cs + r) (omega (arith, opened-le cs)) s .1)
+    let x = digits (weight-of ws cs) (opened cs) (shut b cs + r) (omega (arith, opened-le cs)) s in
+    rw d (x .0, x .1)
 
 pub place-below : (b : ℕ) (ws : List ℕ) (cs : Choice) → ((i : ℕ) → getD ws i 0 ≤ 1000000) → b + length ws ≤ 24 → length cs ≡ length ws → place b ws cs ≤ length ws * 2 ^ 50
 place-below b [] [] light h e = omega arith
@@ -103,3 +105,10 @@ place-says ws cs few e =
     let c : 2 ^ length cs ≡ 2 ^ length ws = ap (λ (n : ℕ). 2 ^ n) e in
     let p : 2 ^ length ws ≤ 2 ^ 24 = pow-mono few in
     rw (place-is 0 ws cs e) (digits (weight-of ws cs) (opened cs) (shut 0 cs) (omega (arith, opened-le cs)) (omega (arith, shut-code cs)))
+
+-- no choice weighs more than as many of the heaviest
+pub weight-le : (m : ℕ) (ws : List ℕ) (cs : Choice) → ((i : ℕ) → getD ws i 0 ≤ m) → weight-of ws cs ≤ opened cs * m
+weight-le m [] cs heavy = omega arith
+weight-le m (w ∷ ws) [] heavy = omega arith
+weight-le m (w ∷ ws) (true ∷ cs) heavy = omega (arith, heavy 0, weight-le m ws cs (λ i. heavy (suc i)), add-mul 1 (opened cs) m)
+weight-le m (w ∷ ws) (false ∷ cs) heavy = omega (arith, weight-le m ws cs (λ i. heavy (suc i)), add-mul 0 (opened cs) m)

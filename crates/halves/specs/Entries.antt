@@ -9,7 +9,6 @@ use mathlib.Core.Logic.{_⊎_}
 use mathlib.Core.Bool.{true}
 use Prim.Native.Nat.{ℕ, _+_, _≤_, _<_}
 use lib.ListN.{getD}
-use Rattle.halves.specs.Place.{pans-in}
 use Rattle.halves.specs.declared.way.Way.{Way}
 
 abbrev pub Rises : List ℕ → ℕ → Type 0
@@ -35,10 +34,10 @@ pub record Opening (to : ℕ) (v : Way) (gain : ℕ) (es : List ℕ) (n m : ℕ)
   pub opens : 0 < m → v .opens ≡ true
   pub all : v .opens ≡ true → (p : ℕ) → p < n → getD es p 0 + gain < to → p < m
 
--- a half with one pan more: its choices with the pan shut, and with it opened, but for what opens too many or is too heavy
-pub record Grown (limit to : ℕ) (v : Way) (gain : ℕ) (old es : List ℕ) (n n′ : ℕ) : Type 0 where
+-- a half with one pan more: its choices with the pan shut, and with it opened, but for what is too heavy
+pub record Grown (to : ℕ) (v : Way) (gain : ℕ) (old es : List ℕ) (n n′ : ℕ) : Type 0 where
   pub few : n′ ≤ n + n
   pub rises : Rises es n′
-  pub keeps : v .stays ≡ true → (p : ℕ) → p < n → pans-in (getD old p 0) ≤ limit → Holds es n′ (getD old p 0)
-  pub adds : v .opens ≡ true → (p : ℕ) → p < n → pans-in (getD old p 0 + gain) ≤ limit → getD old p 0 + gain < to → Holds es n′ (getD old p 0 + gain)
+  pub keeps : v .stays ≡ true → (p : ℕ) → p < n → Holds es n′ (getD old p 0)
+  pub adds : v .opens ≡ true → (p : ℕ) → p < n → getD old p 0 + gain < to → Holds es n′ (getD old p 0 + gain)
   pub only : (q : ℕ) → q < n′ → ((v .stays ≡ true) × Holds old n (getD es q 0)) ⊎ ((v .opens ≡ true) × ((p : ℕ) × (p < n) × (getD old p 0 + gain ≡ getD es q 0)))

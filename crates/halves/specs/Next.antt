@@ -7,7 +7,7 @@ use mathlib.Core.Path.{_≡_}
 use mathlib.Core.Bool.{true}
 use mathlib.Core.List.{List}
 use Prim.Native.Nat.{ℕ, _+_, _-_, _/_, _^_, _≤_, _<_}
-use lib.ListN.{length, take, drop}
+use lib.ListN.{length, getD, take, drop}
 use Rattle.std.specs.declared.option.Option.{Option}
 use Rattle.std.specs.declared.option.Option.the-variants.{Some, None}
 use Rattle.choices.specs.Choice.{Choice, opened}
@@ -23,8 +23,9 @@ pub record Filled (ws : List ℕ) (vs : List Way) (room : List ℕ) (s : Halves)
   pub enough : room-for (length ws) ≤ length room
   pub front-few : s .front ≤ 2 ^ (length ws / 2)
   pub back-few : s .back ≤ 2 ^ (length ws - length ws / 2)
-  pub front : Half (length ws - length ws / 2) 0 (s .limit) (s .to) (take (length ws / 2) ws) (take (length ws / 2) vs) room (s .front)
-  pub back : Half 0 0 (s .limit) (s .to) (drop (length ws / 2) ws) (drop (length ws / 2) vs) (drop (2 ^ (length ws / 2)) room) (s .back)
+  pub heavy : (i : ℕ) → getD ws i 0 ≤ s .bounds .heaviest
+  pub front : Half (length ws - length ws / 2) 0 (s .bounds) (take (length ws / 2) ws) (take (length ws / 2) vs) room (s .front)
+  pub back : Half 0 0 (s .bounds) (drop (length ws / 2) ws) (drop (length ws / 2) vs) (drop (2 ^ (length ws / 2)) room) (s .back)
 
 pub record Allowed (limit : ℕ) (ws : List ℕ) (vs : List Way) (from : ℕ) (cs : Choice) : Type 0 where
   pub ways : by-ways vs cs ≡ true

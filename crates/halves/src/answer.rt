@@ -46,7 +46,8 @@ pub fn best(ring: Ring, room: &mut [u64]) -> Option<Bag>
     let above = u64::from(ring.rule.above);
     let halves = fill(
         pans,
-        u64::from(ring.rule.pans),
+        ring.rule.pans,
+        ring.rule.target,
         (target + above + 1) << 29,
         room,
     );

@@ -1,11 +1,10 @@
 // How far the two halves fill a room.
+use crate::bounds::Bounds;
 
-// So many entries of the front half, which stands first, and of the back half; none that is needed opens more pans than
-// the limit or lies at or past the bound.
+// So many entries of the front half, which stands first, and of the back half; none is left out that the bounds allow.
 #[derive(Clone, Copy)]
 pub struct Halves {
     pub front: usize,
     pub back: usize,
-    pub limit: u64,
-    pub to: u64,
+    pub bounds: Bounds,
 }

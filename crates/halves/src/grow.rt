@@ -70,12 +70,12 @@ fn openable(es: &[u64], n: usize, way: Way, gain: u64, to: u64) -> usize
 }
 
 // One pan more, which may be opened or stay shut by its way; gives how many entries there are then.
-pub fn grow(es: &mut [u64], n: usize, way: Way, gain: u64, limit: u64, to: u64) -> usize
+pub fn grow(es: &mut [u64], n: usize, way: Way, gain: u64, to: u64) -> usize
     requires room { ⌜ n + n ≤ length (now es) ⌝ }
     requires rises { ⌜ Rises (now es) n ⌝ }
     requires low { ⌜ ((p : ℕ) → p < n → getD (now es) p 0 < 2 ^ 62) ⌝ }
     requires small { ⌜ gain < 2 ^ 62 ⌝ }
-    ensures { λ r. ⌜ Grown limit to way gain (now (es .entry)) (now (es .exit)) n r ⌝ }
+    ensures { λ r. ⌜ Grown to way gain (now (es .entry)) (now (es .exit)) n r ⌝ }
 {
     let m = openable(es, n, way, gain, to);
     if way.stays {

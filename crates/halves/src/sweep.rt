@@ -2,7 +2,7 @@
 ghost use Prim.Native.Nat.{ℕ, _+_, _^_, _<_, _≤_};
 ghost use Rattle.halves.specs.Entries.{Rises};
 ghost use Rattle.halves.specs.Place.{pans-in};
-ghost use Rattle.halves.specs.Sweep.{Few, Least-sum, Meets};
+ghost use Rattle.halves.specs.Sweep.{Apart, Few, Least-sum, Meets};
 ghost use lib.Dec.{leb};
 ghost use lib.ListN.{getD, length};
 ghost use mathlib.Core.Bool.{_&&_};
@@ -18,6 +18,13 @@ pub struct Band {
 }
 
 impl Band {
+    // Every entry, whatever it opens.
+    const ALL: Band = Band {
+        least: 0,
+        most: 31,
+        rest: 31,
+    };
+
     // Whether an entry of the back half is looked at.
     fn takes(self, entry: u64) -> bool
         ensures { λ r. ⌜ r ≡ (leb (self .least) (pans-in entry) && leb (pans-in entry) (self .most)) ⌝ }
@@ -28,7 +35,7 @@ impl Band {
 }
 
 // Goes up the back half and down the front half.
-pub fn sweep(front: &[u64], back: &[u64], band: Band, from: u64, to: u64) -> u64
+fn sweep(front: &[u64], back: &[u64], band: Band, from: u64, to: u64) -> u64
     requires front_rises { ⌜ Rises (now front) (length (now front)) ⌝ }
     requires back_rises { ⌜ Rises (now back) (length (now back)) ⌝ }
     requires front_low { ⌜ ((p : ℕ) → p < length (now front) → getD (now front) p 0 < 2 ^ 62) ⌝ }
@@ -56,7 +63,7 @@ pub fn sweep(front: &[u64], back: &[u64], band: Band, from: u64, to: u64) -> u64
 }
 
 // One sweep for each count of pans in the back half, each below what was found before.
-pub fn counted(front: &[u64], back: &[u64], limit: u64, from: u64, to: u64) -> u64
+fn counted(front: &[u64], back: &[u64], limit: u64, from: u64, to: u64) -> u64
     requires front_rises { ⌜ Rises (now front) (length (now front)) ⌝ }
     requires back_rises { ⌜ Rises (now back) (length (now back)) ⌝ }
     requires front_low { ⌜ ((p : ℕ) → p < length (now front) → getD (now front) p 0 < 2 ^ 62) ⌝ }
@@ -73,4 +80,30 @@ pub fn counted(front: &[u64], back: &[u64], limit: u64, from: u64, to: u64) -> u
         found = sweep(front, back, band, from, found);
     }
     found
+}
+
+// How many sweeps are tried with no eye to the count, each from the weight after the last, before one is made for each count.
+const TRIES: u32 = 3;
+
+// What is found first opens the fewest pans of its weight, so where that is too many the next weight is tried.
+pub fn least(front: &[u64], back: &[u64], limit: u64, from: u64, to: u64) -> u64
+    requires front_rises { ⌜ Rises (now front) (length (now front)) ⌝ }
+    requires back_rises { ⌜ Rises (now back) (length (now back)) ⌝ }
+    requires front_low { ⌜ ((p : ℕ) → p < length (now front) → getD (now front) p 0 < 2 ^ 62) ⌝ }
+    requires back_low { ⌜ ((p : ℕ) → p < length (now back) → getD (now back) p 0 < 2 ^ 62) ⌝ }
+    requires apart { ⌜ Apart (now front) (now back) ⌝ }
+    ensures { λ r. ⌜ Least-sum (Few limit) (now (front .entry)) (now (back .entry)) from to r ⌝ }
+{
+    let mut at = from;
+    for _ in 0..TRIES {
+        let found = sweep(front, back, Band::ALL, at, to);
+        if found >= to {
+            return to;
+        }
+        if pans_in(found) <= limit {
+            return found;
+        }
+        at = ((found >> 29) + 1) << 29;
+    }
+    counted(front, back, limit, at, to)
 }

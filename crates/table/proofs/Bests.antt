@@ -1,25 +1,23 @@
 -- The first weight of the window that few enough pans make is the best bag's, and the first choice of it the best.
-use mathlib.Core.Path.{_≡_, refl, sym, ap, _∙_}
-use mathlib.Core.Bool.{Bool, true, false, cond, _&&_, _||_, not}
+use mathlib.Core.Path.{_≡_, refl, sym, _∙_}
+use mathlib.Core.Bool.{Bool, true, false, cond, _&&_, _||_}
 use mathlib.Core.List.{List, [], _∷_}
 use mathlib.Core.Logic.{_⊎_, inl, inr}
-use Prim.Native.Nat.{ℕ, zero, suc, _+_, _*_, _-_, _≤_, _<_, min}
+use Prim.Native.Nat.{ℕ, _+_, _*_, _-_, _≤_, _<_, min}
 use native.Mathlib.Omega.{arith}
 use native.Mathlib.Nat.{mul-add, mul-one}
 use lib.ListN.{length, getD}
 use lib.Dec.{ltb, leb, eqb}
 use Rattle.std.proofs.shelf.Tests.{and-parts, and-from, both-ways, cases-lt, or-right, le-leb, leb-true}
 use Rattle.std.proofs.shelf.Ways.{tells}
-use Rattle.std.specs.declared.option.Option.the-variants.{Some, None}
-use Rattle.choices.specs.Choice.{Choice, bit, weight-of, opened, none-empty, keeps-old, fits}
-use Rattle.choices.specs.Numbered.{number-of}
+use Rattle.std.specs.declared.option.Option.the-variants.{None}
+use Rattle.choices.specs.Choice.{Choice, weight-of, opened, none-empty, keeps-old, fits}
 use Rattle.choices.specs.declared.rule.Rule.{Rule}
 use Rattle.choices.proofs.Choices.{Fitting, fitting, fits-from}
-use Rattle.order.specs.Order.{better, first-more, Best-of, None-of, Best-bag}
-use Rattle.order.specs.declared.bag.Bag.{Bag}
-use Rattle.table.specs.Pans.{due-weight, due-pans, free-weight, free-pans, none-due-empty, span-of, table-bytes}
-use Rattle.table.specs.Rows.{Makes, Least, First, Row, Rows, Read, Lightest, Lightest-at}
-use Rattle.table.specs.Surveyed.{Surveyed, Leaves-a-bag}
+use Rattle.order.specs.Order.{better, first-more, None-of, Best-bag}
+use Rattle.table.specs.Pans.{due-weight, due-pans, free-weight, free-pans, none-due-empty, span-of, row-bytes, table-bytes}
+use Rattle.table.specs.Rows.{Makes, Row, Rows, Read, Lightest, Lightest-at}
+use Rattle.table.specs.Surveyed.{Surveyed, Leaves-a-bag, Laid}
 use Rattle.table.specs.declared.survey.Survey.{Survey}
 use Rattle.table.proofs.Making.{due-le}
 use Rattle.table.proofs.Surveying.{span-is}
@@ -204,34 +202,25 @@ leaves-from {r} {s = s} h test =
       light = omega (arith, leb-true (s .due) (r .target + r .above) (q .1), h .due);
     }
 
--- how the table lies in its room
-pub record Laid (r : Rule) (ws as′ : List ℕ) (most start : ℕ) (bytes : List ℕ) : Type 0 where
-  pub span : most ≡ span-of r ws as′
-  pub small : most ≤ 2000000
-  pub enough : (most + 32) * (free-pans (r .age) ws as′ + 1) ≤ length bytes
-  pub top : start ≡ (most + 32) * free-pans (r .age) ws as′
-  pub last : start + most < length bytes
-
 pub laid :
-    {r : Rule} {ws as′ : List ℕ} {s : Survey} {most : ℕ} {bytes : List ℕ} → Surveyed (r .age) ws as′ s → r .target ≤ 1000000 → r .above ≤ 1000000 →
-    most ≡ min (r .target + r .above - s .due) (s .free) → table-bytes r ws as′ ≤ length bytes → Laid r ws as′ most ((most + 32) * s .rows) bytes
+    {r : Rule} {ws as′ : List ℕ} {s : Survey} {most long : ℕ} → Surveyed (r .age) ws as′ s → r .target ≤ 1000000 → r .above ≤ 1000000 →
+    most ≡ min (r .target + r .above - s .due) (s .free) → table-bytes r ws as′ ≤ long → Laid r ws as′ most (row-bytes most * s .rows) long
 unfolding table-bytes
 laid {r} {ws} {as′} {s} {most} h target above is enough =
     let span = is ∙ span-is r ws as′ s h in
-    let top : (most + 32) * s .rows ≡ (most + 32) * free-pans (r .age) ws as′ = rw (h .rows) refl in
     let room = rw (sym span) at enough in
     record {
       span = span;
       small = omega arith;
       enough = room;
-      top = top;
-      last = omega (arith, room, mul-add (most + 32) (free-pans (r .age) ws as′) 1, mul-one (most + 32));
+      top = rw (h .rows) refl;
+      last = rw (h .rows) (omega (arith, room, mul-add (row-bytes most) (free-pans (r .age) ws as′) 1, mul-one (row-bytes most)));
     }
 
 pub window :
-    {r : Rule} {ws as′ : List ℕ} {s : Survey} {most start from limit : ℕ} {bytes bytes′ : List ℕ} → Surveyed (r .age) ws as′ s → Leaves-a-bag r ws as′ →
-    Laid r ws as′ most start bytes → length as′ ≡ length ws → length ws ≤ 24 → Rows (r .age) ws as′ most (most + 32) 0 bytes′ →
-    from ≡ r .target - s .due → limit ≡ min (r .pans - s .held) 254 → Window r ws as′ most start from limit bytes′
+    {r : Rule} {ws as′ : List ℕ} {s : Survey} {most start long from limit : ℕ} {bytes : List ℕ} → Surveyed (r .age) ws as′ s → Leaves-a-bag r ws as′ →
+    Laid r ws as′ most start long → length as′ ≡ length ws → length ws ≤ 24 → Rows (r .age) ws as′ most (row-bytes most) 0 bytes →
+    from ≡ r .target - s .due → limit ≡ min (r .pans - s .held) 254 → Window r ws as′ most start from limit bytes
 window h leaves t paired small rows enough few =
     record {
       paired = paired;

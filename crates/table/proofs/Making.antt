@@ -1,16 +1,16 @@
 -- Choices of some pans and of one pan more, in front: what the least count and the first choice are with it.
-use mathlib.Core.Path.{_≡_, refl, sym, ap, _∙_}
-use mathlib.Core.Bool.{Bool, true, false, cond, _&&_, _||_, not}
+use mathlib.Core.Path.{_≡_, refl, ap}
+use mathlib.Core.Bool.{Bool, true, false, cond}
 use mathlib.Core.List.{List, [], _∷_}
 use mathlib.Core.Logic.{_⊎_, inl, inr}
-use Prim.Native.Nat.{ℕ, zero, suc, _+_, _*_, _-_, _≤_, _<_, min}
+use Prim.Native.Nat.{ℕ, suc, _+_, _-_, _≤_, _<_, min}
 use native.Mathlib.Omega.{arith}
 use lib.ListN.{length}
 use lib.Dec.{ltb, leb}
-use Rattle.std.proofs.shelf.Tests.{and-parts, and-from, leb-true, le-leb, both-ways, cases-lt}
-use Rattle.choices.specs.Choice.{Choice, bit, weight-of, opened, none-empty, keeps-old}
+use Rattle.std.proofs.shelf.Tests.{and-parts, and-from, both-ways, cases-lt}
+use Rattle.choices.specs.Choice.{Choice, weight-of, opened, none-empty, keeps-old}
 use Rattle.order.specs.Order.{first-more}
-use Rattle.table.specs.Pans.{due-weight, due-pans, free-weight, free-pans, none-due-empty}
+use Rattle.table.specs.Pans.{due-weight, due-pans}
 use Rattle.table.specs.Rows.{Makes, Least, First}
 
 cond-le : (b : Bool) (w : ℕ) → cond b 0 w ≤ w

@@ -1,21 +1,20 @@
 -- The choice that is read off the rows, pan by pan: what is read so far, with the first choice of what is left, is the first of all.
-use mathlib.Core.Path.{_≡_, refl, sym, ap, _∙_}
-use mathlib.Core.Bool.{Bool, true, false, cond, _&&_}
+use mathlib.Core.Path.{_≡_, sym, _∙_}
+use mathlib.Core.Bool.{Bool, true, false, _&&_}
 use mathlib.Core.List.{List, [], _∷_}
-use mathlib.Core.Logic.{_⊎_, inl, inr}
-use Prim.Native.Nat.{ℕ, zero, suc, _+_, _*_, _-_, _^_, _≤_, _<_}
+use mathlib.Core.Logic.{inl, inr}
+use Prim.Native.Nat.{ℕ, _+_, _*_, _-_, _^_, _≤_, _<_}
 use native.Mathlib.Omega.{arith}
 use native.Mathlib.Nat.{mul-add, mul-one, mul-assoc, mul-comm, pow-succ', mul-le-mul-left}
 use native.Mathlib.Numerals.{add-one}
 use lib.ListN.{length, getD, drop}
 use lib.Dec.{ltb, leb}
 use Rattle.std.proofs.shelf.Lists.{drop-all}
-use Rattle.std.proofs.shelf.Bits.{pow-pos}
-use Rattle.std.proofs.shelf.Tests.{and-parts, and-cases, both-ways, leb-true, leb-false, ltb-true, ltb-false, lt-ltb, le-leb, lt-leb}
+use Rattle.std.proofs.shelf.Tests.{and-parts, both-ways, leb-true, ltb-true, ltb-false, lt-ltb, le-leb, lt-leb}
 use Rattle.choices.specs.Choice.{Choice, bit}
 use Rattle.choices.specs.Numbered.{number-of}
 use Rattle.table.specs.Pans.{free-pans, none-due-empty}
-use Rattle.table.specs.Rows.{Least, First, Row, Rows, Read}
+use Rattle.table.specs.Rows.{Least, First, Rows, Read}
 use Rattle.table.proofs.Making.{first-due, first-open, first-shut, first-nothing, shut-below}
 use Rattle.table.proofs.Filling.{drop-weights, drop-ages, free-next, free-rowless, free-drop, due-filled}
 

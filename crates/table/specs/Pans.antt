@@ -5,9 +5,9 @@
 --   free-pans        how many of the others are not empty: each may be opened or stay shut, and has a row
 --   none-due-empty   no pan that has to be opened is empty
 --   span-of          the most that the free pans of a bag may weigh: all of them, or what is left to the top of the window
---   table-bytes      the bytes of a table: a row for no pan at all and one for each free pan, each with a byte for every
---                    weight up to the span and 31 behind them
-use mathlib.Core.Bool.{Bool, true, false, cond, _&&_, _||_}
+--   row-bytes        the bytes of a row: one for every weight up to a span, and 15 behind them
+--   table-bytes      the bytes of a table: a row for no pan at all and one for each free pan
+use mathlib.Core.Bool.{Bool, true, cond, _&&_, _||_}
 use mathlib.Core.List.{List, [], _∷_}
 use Prim.Native.Nat.{ℕ, _+_, _-_, _*_, min}
 use lib.Dec.{ltb, leb}
@@ -41,5 +41,8 @@ none-due-empty old (w ∷ ws) (a ∷ as′) = (ltb a old || leb 1 w) && none-due
 unfoldable pub span-of : Rule → (weights ages : List ℕ) → ℕ
 span-of r ws as′ = min (r .target + r .above - due-weight (r .age) ws as′) (free-weight (r .age) ws as′)
 
+abbrev pub row-bytes : ℕ → ℕ
+row-bytes most = most + 16
+
 unfoldable pub table-bytes : Rule → (weights ages : List ℕ) → ℕ
-table-bytes r ws as′ = (span-of r ws as′ + 32) * (free-pans (r .age) ws as′ + 1)
+table-bytes r ws as′ = row-bytes (span-of r ws as′) * (free-pans (r .age) ws as′ + 1)

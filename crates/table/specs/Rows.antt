@@ -1,12 +1,12 @@
 -- What the rows of a table hold. Assumes nothing: these are definitions.
---   Written   what is left before a place, and what stands in a stretch from there on
---   Makes   a choice of some pans that opens every pan that has to be opened and none that is empty, and weighs so
---           much more than the pans that have to be opened
---   Least   the least number of pans, beside those that have to be opened, in such a choice; 255 and more: there is none
---   Row     a row holds it for every weight up to the span
---   Rows    for each pan from the first one on, the row of the pans from there on, behind the rows of fewer free pans
---   First   of the choices that weigh so much, the one of the fewest pans that opens the first pan that differs
---   Read    the first choice that weighs so much, by its number
+--   Written    nothing before a place has changed, and from there on stand so many given bytes
+--   Makes      a choice of some pans that opens every pan that has to be opened and none that is empty, and weighs so
+--              much more than the pans that have to be opened
+--   Least      the least number of pans, beside those that have to be opened, in such a choice; 255: there is none
+--   Row        a row holds it for every weight up to the span
+--   Rows       for each pan from the first one on, the row of the pans from there on; it lies behind the rows of fewer free pans
+--   First      of the choices that weigh so much, the one of the fewest pans that opens the first pan that differs
+--   Read       that choice, by its number
 --   Lightest   the first weight of a window for which a row holds a count within a limit, or that there is none
 use mathlib.Core.Path.{_≡_}
 use mathlib.Core.Bool.{true, false}

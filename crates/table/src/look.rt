@@ -2,6 +2,7 @@
 ghost use Rattle.table.specs.Pans.{table-bytes};
 ghost use Rattle.table.specs.Surveyed.{Surveyed};
 ghost use mathlib.Core.Path.{_≡_};
+use crate::rows::BLOCK;
 use crate::survey::Survey;
 use choices::Ring;
 
@@ -21,5 +22,5 @@ pub fn room_for(ring: Ring) -> usize
     ensures { λ r. ⌜ r ≡ table-bytes (ring .entry .rule) (now (ring .entry .weights)) (now (ring .entry .ages)) ⌝ }
 {
     let seen = survey(ring);
-    (seen.span(ring.rule) + 32) * (seen.rows + 1)
+    (seen.span(ring.rule) + BLOCK) * (seen.rows + 1)
 }

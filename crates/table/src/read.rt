@@ -1,11 +1,12 @@
 // The bag read off the rows: its weight, and the pans from the first on.
-ghost use Prim.Native.Nat.{ℕ, _+_, _-_, _*_, _<_, _≤_};
-ghost use Rattle.table.specs.Pans.{free-pans, none-due-empty};
+ghost use Prim.Native.Nat.{_+_, _-_, _*_, _<_, _≤_};
+ghost use Rattle.table.specs.Pans.{free-pans, none-due-empty, row-bytes};
 ghost use Rattle.table.specs.Rows.{Lightest, Read, Rows};
 ghost use lib.Dec.{leb, ltb};
 ghost use lib.ListN.{getD, length};
 ghost use mathlib.Core.Bool.{_&&_, true};
 ghost use mathlib.Core.Path.{_≡_};
+use crate::rows::BLOCK;
 use choices::Ring;
 
 // The first weight of the window that few enough pans make.
@@ -36,9 +37,9 @@ fn opens(room: &[u8], whole: usize, rest: usize, left: usize, weight: usize) -> 
 // The pans of the choice that makes a weight, as the number that is answered.
 pub fn read(ring: Ring, room: &[u8], span: usize, top: usize, weight: usize) -> u32
     requires ready { ⌜ none-due-empty (ring .rule .age) (now (ring .weights)) (now (ring .ages)) ≡ true ⌝ }
-    requires rows { ⌜ Rows (ring .rule .age) (now (ring .weights)) (now (ring .ages)) span (span + 32) 0 (now room) ⌝ }
-    requires enough { ⌜ (span + 32) * (free-pans (ring .rule .age) (now (ring .weights)) (now (ring .ages)) + 1) ≤ length (now room) ⌝ }
-    requires top { ⌜ top ≡ (span + 32) * free-pans (ring .rule .age) (now (ring .weights)) (now (ring .ages)) ⌝ }
+    requires rows { ⌜ Rows (ring .rule .age) (now (ring .weights)) (now (ring .ages)) span (row-bytes span) 0 (now room) ⌝ }
+    requires enough { ⌜ row-bytes span * (free-pans (ring .rule .age) (now (ring .weights)) (now (ring .ages)) + 1) ≤ length (now room) ⌝ }
+    requires top { ⌜ top ≡ row-bytes span * free-pans (ring .rule .age) (now (ring .weights)) (now (ring .ages)) ⌝ }
     requires within { ⌜ weight ≤ span ⌝ }
     requires some { ⌜ getD (now room) (top + weight) 0 < 255 ⌝ }
     ensures { λ r. ⌜ Read (ring .entry .rule .age) (now (ring .entry .weights)) (now (ring .entry .ages)) weight r ⌝ }
@@ -52,7 +53,7 @@ pub fn read(ring: Ring, room: &[u8], span: usize, top: usize, weight: usize) -> 
             pans += 1 << pan;
         } else if lies > 0 {
             let whole = row;
-            row -= span + 32;
+            row -= span + BLOCK;
             if opens(room, whole, row, left, lies) {
                 pans += 1 << pan;
                 left -= lies;

@@ -5,4 +5,4 @@ use Rattle.halves.specs.Half.{Half}
 use Rattle.halves.proofs.half.half.Given as given
 
 abbrev pub Inv-loop-k : given.InvT-loop-k
-Inv-loop-k l = Half (l .behind) (2 ^ (l .behind + l .pans) - 2 ^ (l .behind + (l .pans - l .k))) (l .limit) (l .to) (drop (l .k) (l .weights)) (drop (l .k) (l .ways)) (l .es) (l .n)
+Inv-loop-k l = Half (l .behind) (2 ^ (l .behind + l .pans) - 2 ^ (l .behind + (l .pans - l .k))) (l .bounds) (drop (l .k) (l .weights)) (drop (l .k) (l .ways)) (l .es) (l .n)

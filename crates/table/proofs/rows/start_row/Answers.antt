@@ -1,9 +1,8 @@
 -- What is left of the proof that the row of no pan is made.
 use native.Mathlib.Omega.{arith}
-use mathlib.Core.Path.{_≡_, _∙_}
+use mathlib.Core.Path.{_∙_}
 use mathlib.Core.Logic.{_≢_}
 use borrow.Author.Count.{below-more}
-use lib.ListN.{getD, set}
 use Rattle.std.proofs.shelf.Lists.{getD-set-same, getD-set-other}
 use Rattle.table.proofs.rows.start_row.Needs as need
 
