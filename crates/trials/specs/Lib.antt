@@ -1,1 +1,3 @@
--- The trials need no definitions of their own.
+-- What the trials promise of their own counting and of the plain way.
+pub mod Counted
+pub mod Same

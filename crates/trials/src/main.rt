@@ -1,17 +1,17 @@
 // The trials: random rings through the entries and the engines, beside all choices tried in the plainest way.
 mod asked;
 mod case;
-mod dice;
 mod outcome;
 mod plain;
 mod rings;
 mod scores;
 mod worked;
 
-use dice::Dice;
+use asked::try_case;
 use halves::ROOM;
 use outcome::AnswerPartialEq;
 use plain::all_tried;
+use rings::Dice;
 use rings::random_case;
 use scores::Score;
 use scores::ScoreDisplay;
@@ -33,12 +33,12 @@ fn run(rt: &LibcRuntime) -> Result<(), AnyError> {
     for row in WORKED {
         let case = row.case();
         by_hand.note(all_tried(&case).answer == row.answer);
-        scores.try_case(&case, &mut entries, &mut bytes);
+        try_case(&mut scores, &case, &mut entries, &mut bytes);
     }
     let mut dice = Dice::new(2024);
     for _ in 0..RINGS {
         let case = random_case(&mut dice);
-        scores.try_case(&case, &mut entries, &mut bytes);
+        try_case(&mut scores, &case, &mut entries, &mut bytes);
     }
     println!(rt, "all choices, beside bags worked by hand: {by_hand}")?;
     report(rt, scores)
@@ -47,19 +47,19 @@ fn run(rt: &LibcRuntime) -> Result<(), AnyError> {
 // A line for each way to a bag.
 fn report(rt: &LibcRuntime, scores: Scores) -> Result<(), AnyError> {
     let Scores {
-        entry,
-        entry_by_table,
-        entry_by_halves,
+        bag,
+        bag_by_table,
+        bag_by_halves,
         scan,
         halves,
         table,
     } = scores;
-    println!(rt, "the entry, by the scan: {entry}")?;
+    println!(rt, "the entry, by the scan: {bag}")?;
     println!(
         rt,
-        "the entry over rooms, by the table where it fits: {entry_by_table}"
+        "the entry over rooms, by the table where it fits: {bag_by_table}"
     )?;
-    println!(rt, "the entry over rooms, by the halves: {entry_by_halves}")?;
+    println!(rt, "the entry over rooms, by the halves: {bag_by_halves}")?;
     println!(rt, "the scan: {scan}")?;
     println!(rt, "the halves: {halves}")?;
     println!(rt, "the table: {table}")?;

@@ -1,4 +1,5 @@
 // What a bag is, in the plainest way: every choice is tried, pan i is bit i, and nothing is left out.
+ghost use Rattle.trials.specs.Same.{Same-without-a-bag};
 use crate::case::Case;
 use crate::outcome::Answer;
 use crate::outcome::Outcome;
@@ -85,7 +86,9 @@ fn refusal(case: &Case) -> Option<u64> {
 }
 
 // What is answered, and what the pans hold afterwards.
-pub fn all_tried(case: &Case) -> Outcome {
+pub fn all_tried(case: &Case) -> Outcome
+    ensures { λ r. ⌜ Same-without-a-bag (now (case .entry)) r ⌝ }
+{
     let mut weights = case.weights;
     let mut ages = case.ages;
     if let Some(number) = refusal(case) {

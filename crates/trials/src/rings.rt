@@ -1,9 +1,44 @@
 // Random cases: of ties, of the trade's weights and of heavy ones, with empty and old pans, and now and then a wrong number.
+ghost use Prim.Native.Nat.{_≤_};
+ghost use mathlib.Core.Path.{_≡_};
 use crate::case::Case;
 use crate::case::MOST;
-use crate::dice::Dice;
 
 const LIMIT: u32 = 1_000_000;
+
+// Numbers that look random and are the same in every run.
+#[derive(Drop)]
+pub struct Dice {
+    state: u64,
+}
+
+impl Dice {
+    pub fn new(seed: u64) -> Dice
+        ensures { λ r. ⌜ r .state ≡ seed ⌝ }
+    {
+        Dice { state: seed }
+    }
+
+    // The next number below n; 0 where n is 0.
+    fn below(&mut self, n: u32) -> u32 {
+        self.state = self.state
+            .wrapping_mul(6_364_136_223_846_793_005)
+            .wrapping_add(1_442_695_040_888_963_407);
+        let drawn = (self.state >> 33) as u32;
+        drawn.checked_rem(n).unwrap_or(0)
+    }
+
+    // One of a few, where there is one.
+    fn pick(&mut self, few: &[u32]) -> u32 {
+        let place = self.below(few.len().min(1000) as u32) as usize;
+        few.get(place).copied().unwrap_or(0)
+    }
+
+    // Whether a thing that happens once in n times happens now.
+    fn once_in(&mut self, n: u32) -> bool {
+        self.below(n) == 0
+    }
+}
 
 // Handfuls of so many units at most.
 #[derive(Clone, Copy)]
@@ -51,7 +86,9 @@ fn rule(dice: &mut Dice, scale: Scale) -> [u32; 4] {
 }
 
 // Makes one number wrong, of the rule or of some pan.
-fn spoil(dice: &mut Dice, case: &mut Case) {
+fn spoil(dice: &mut Dice, case: &mut Case)
+    ensures { λ _. ⌜ now (case .exit) .pans ≡ now (case .entry) .pans ⌝ }
+{
     let wrong = dice.below(LIMIT).saturating_add(1_000_001);
     let pan = dice.below(12).min(11) as usize;
     match dice.below(7) {
@@ -65,7 +102,9 @@ fn spoil(dice: &mut Dice, case: &mut Case) {
     }
 }
 
-pub fn random_case(dice: &mut Dice) -> Case {
+pub fn random_case(dice: &mut Dice) -> Case
+    ensures { λ r. ⌜ 1 ≤ r .pans ⌝ }
+{
     let scale = Scale::random(dice);
     let pans = (dice.below(12) as usize + 1).min(MOST);
     let mut weights = [0; 12];

@@ -1,4 +1,5 @@
 // Bags that were worked out by hand.
+ghost use mathlib.Core.Path.{_≡_};
 use crate::case::Case;
 use crate::outcome::Answer;
 
@@ -38,7 +39,9 @@ pub const WORKED: [Worked; 4] = [
 ];
 
 impl Worked {
-    pub fn case(self) -> Case {
+    pub fn case(self) -> Case
+        ensures { λ r. ⌜ r .pans ≡ 8 ⌝ }
+    {
         let rule = self.rule;
         let mut ages = [0; 12];
         ages[1] = self.waited;
