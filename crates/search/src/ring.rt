@@ -61,7 +61,7 @@ pub impl<'a> Criterion for Ring<'a> as RingCriterion {
 }
 
 // Blocks of fewer free pans cost more to test than to try.
-const WIDE: u32 = 4;
+const WIDE: u32 = 2;
 
 // Whether a block of choices, each of which opens all that its head opens and no more than its last, has none that fits
 // and weighs at most `most`: the head is too heavy, opens too many or an empty pan; or all that may be opened is not

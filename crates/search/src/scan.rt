@@ -38,15 +38,15 @@ fn consider<C: Criterion>(criterion: &C, k: u64, best: Option<u64>) -> Option<u6
     }
 }
 
-// One candidate is looked at, after those that are not worth it.
-fn step<C: Criterion>(criterion: &C, at: Progress) -> Progress
-    requires { ⌜ at .next < C·Criterion .count (now criterion) ⌝ ∗ ⌜ Sought (C·Criterion .allows (now criterion)) (C·Criterion .beats (now criterion)) (at .next) (at .best) ⌝ }
+// What is not worth a look is passed over, or else one candidate is looked at: what follows a pass may be passed over too.
+fn step<C: Criterion>(criterion: &C, at: Progress, count: u64) -> Progress
+    requires { ⌜ count ≡ C·Criterion .count (now criterion) ⌝ ∗ ⌜ at .next < count ⌝ ∗ ⌜ Sought (C·Criterion .allows (now criterion)) (C·Criterion .beats (now criterion)) (at .next) (at .best) ⌝ }
     ensures on { λ r. ⌜ at .next < r .next ⌝ }
     ensures within { λ r. ⌜ r .next ≤ C·Criterion .count (now (criterion .entry)) ⌝ }
     ensures sought { λ r. ⌜ Sought (C·Criterion .allows (now (criterion .entry))) (C·Criterion .beats (now (criterion .entry))) (r .next) (r .best) ⌝ }
 {
     let k = criterion.worth(at.next, at.best);
-    if k >= criterion.count() {
+    if k > at.next {
         return Progress {
             next: k,
             best: at.best,
@@ -71,7 +71,7 @@ pub fn advance<C: Criterion>(criterion: &C, from: Progress, steps: u64) -> Progr
         if at.next >= count {
             return at;
         }
-        at = step(criterion, at);
+        at = step(criterion, at, count);
     }
     at
 }

@@ -1,0 +1,110 @@
+//! Measures the proved engines beside all choices tried, beside unproved Rust solvers of the same ideas and, where they are
+//! installed, beside outside solvers: the same rings, one run, all answers compared.
+mod clock;
+mod crossover;
+mod engines;
+mod families;
+mod gray;
+mod proved;
+mod reader;
+mod ring;
+mod solvers;
+mod texts;
+mod twin_halves;
+mod twin_table;
+
+use clock::Ticks;
+use engines::{ENGINES, Engine, Rooms, Timed};
+use families::{Family, Random};
+
+/// Compares all answers, ring by ring; ends the run where two differ.
+fn agree(family: &Family, timed: &[Timed]) -> usize {
+    let longest = timed.iter().max_by_key(|t| t.answers.len()).unwrap();
+    for (engine, t) in ENGINES.iter().zip(timed) {
+        for (i, answer) in t.answers.iter().enumerate() {
+            if *answer != longest.answers[i] {
+                let ring = &family.rings[i];
+                panic!("{}: {} says {answer:?}, another {:?} of {:?} {:?} {:?}", family.name, engine.name(), longest.answers[i], ring.rule, ring.weights, ring.ages);
+            }
+        }
+    }
+    timed.iter().map(|t| t.answers.len()).sum()
+}
+
+pub fn micros(x: f64) -> String {
+    match x {
+        x if x >= 1000.0 => format!("{x:.0}"),
+        x if x >= 10.0 => format!("{x:.1}"),
+        x => format!("{x:.3}"),
+    }
+}
+
+fn said(reached: bool) -> &'static str {
+    if reached { "" } else { " MISSED" }
+}
+
+fn main() {
+    let args: Vec<String> = std::env::args().collect();
+    if args.get(1).map(String::as_str) == Some("read") {
+        return reader::run();
+    }
+    let weigh = args.get(1).expect("the program weigh").clone();
+    let picture = args.get(2).expect("where the picture goes").clone();
+    let ticks = Ticks::new();
+    let mut rooms = Rooms::new();
+    let mut x = Random(2026);
+    let mut all = families::all(&mut x);
+    for pans in [14, 24] {
+        let mut best = |r: &ring::Ring| rooms.best(Engine::TableTwin, r);
+        all.push(families::season(&mut x, pans, 10_000, &mut best));
+    }
+
+    let mut rows = Vec::new();
+    let mut compared = 0;
+    for family in &all {
+        let timed: Vec<Timed> = ENGINES
+            .iter()
+            .map(|e| {
+                let budget = if *e == Engine::AllTried { 1e5 } else { 6e5 };
+                engines::time(*e, &family.rings, &mut rooms, &ticks, budget)
+            })
+            .collect();
+        compared += agree(family, &timed);
+        rows.push(timed);
+    }
+
+    println!("## Microseconds a bag: median / worst\n");
+    println!("| family | {} |", ENGINES.map(Engine::name).join(" | "));
+    println!("|---|{}", "---|".repeat(ENGINES.len()));
+    for (family, timed) in all.iter().zip(&rows) {
+        let cells: Vec<String> = timed.iter().map(|t| format!("{} / {}", micros(t.median), micros(t.worst))).collect();
+        println!("| {} | {} |", family.name, cells.join(" | "));
+    }
+    println!("\nAll engines agreed, pans and weight, on every ring: {compared} answers compared.");
+
+    println!("\n## How many times less than all tried (its median over an engine's median, and over an engine's worst), and proved over its Rust twin (medians)\n");
+    println!("| family | scan median | scan worst | halves median | halves worst | halves / Rust | table median | table worst | table / Rust |");
+    println!("|---|---|---|---|---|---|---|---|---|");
+    for (family, t) in all.iter().zip(&rows) {
+        let tried = t[0].median;
+        let full = family.pans == 24;
+        let scan = if family.name.ends_with("24 pans, 5..60, target 100, at most 4") { 50.0 } else { 0.0 };
+        let (hm, hw, ht) = (tried / t[2].median, tried / t[2].worst, t[2].median / t[3].median);
+        let (tm, tt) = (tried / t[4].median, t[4].median / t[5].median);
+        println!(
+            "| {} | {:.1}{} | {:.1} | {:.0}{} | {:.0}{} | {:.2}{} | {:.0}{} | {:.0} | {:.2}{} |",
+            family.name,
+            tried / t[1].median, said(tried / t[1].median >= scan),
+            tried / t[1].worst,
+            hm, said(!full || hm >= 150.0),
+            hw, said(!full || hw >= 60.0),
+            ht, said(ht <= 2.0),
+            tm, said(tm >= family.table_wanted),
+            tried / t[4].worst,
+            tt, said(tt <= 2.0),
+        );
+    }
+    solvers::compare(&all, &mut rooms);
+    texts::compare(&weigh, &mut rooms);
+    crossover::measure(&picture, &mut rooms, &ticks);
+}
