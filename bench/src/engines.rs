@@ -6,6 +6,7 @@ use crate::{gray, proved, twin_halves, twin_table};
 #[derive(Clone, Copy, PartialEq)]
 pub enum Engine {
     AllTried,
+    Plain,
     Scan,
     Halves,
     HalvesTwin,
@@ -13,13 +14,14 @@ pub enum Engine {
     TableTwin,
 }
 
-pub const ENGINES: [Engine; 6] =
-    [Engine::AllTried, Engine::Scan, Engine::Halves, Engine::HalvesTwin, Engine::Table, Engine::TableTwin];
+pub const ENGINES: [Engine; 7] =
+    [Engine::AllTried, Engine::Plain, Engine::Scan, Engine::Halves, Engine::HalvesTwin, Engine::Table, Engine::TableTwin];
 
 impl Engine {
     pub fn name(self) -> &'static str {
         match self {
             Engine::AllTried => "all tried",
+            Engine::Plain => "all tried, plainly",
             Engine::Scan => "scan",
             Engine::Halves => "halves",
             Engine::HalvesTwin => "halves, Rust",
@@ -44,6 +46,7 @@ impl Rooms {
     pub fn best(&mut self, engine: Engine, ring: &Ring) -> Answer {
         match engine {
             Engine::AllTried => gray::best(ring),
+            Engine::Plain => gray::plain(ring),
             Engine::Scan => proved::scan(ring),
             Engine::Halves => proved::halves(ring, &mut self.entries),
             Engine::HalvesTwin => twin_halves::best(ring, &mut self.twin),

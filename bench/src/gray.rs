@@ -83,3 +83,30 @@ pub fn best(r: &Ring) -> Answer {
     }
     walk.best.map(|choice| (choice, ((from + walk.span) >> 29) as u32))
 }
+
+/// The same walk written plainly: one step a turn, with weight, count and choice kept apart.
+pub fn plain(r: &Ring) -> Answer {
+    let n = r.weights.len();
+    let [target, above, limit, _] = r.rule;
+    let (old, empty) = (r.old(), r.empty());
+    let (mut choice, mut weight, mut count) = (0u32, 0u32, 0u32);
+    let mut best: Option<(u32, u32, u32)> = None;
+    for step in 1u32..=1 << n {
+        let fits = weight >= target && weight <= target + above && count <= limit && choice & empty == 0 && choice & old == old;
+        if fits && best.is_none_or(|(w, c, b)| (weight, count, b.reverse_bits()) < (w, c, choice.reverse_bits())) {
+            best = Some((weight, count, choice));
+        }
+        let pan = step.trailing_zeros() as usize;
+        if pan < n {
+            choice ^= 1 << pan;
+            if choice >> pan & 1 == 1 {
+                weight += r.weights[pan];
+                count += 1;
+            } else {
+                weight -= r.weights[pan];
+                count -= 1;
+            }
+        }
+    }
+    best.map(|(weight, _, choice)| (choice, weight))
+}
