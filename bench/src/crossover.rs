@@ -36,41 +36,43 @@ pub fn measure(picture: &str, rooms: &mut Rooms, ticks: &Ticks) {
     by_pans(rooms, ticks, &mut x);
 }
 
-/// For each number of pans, from which table on the halves are the faster way: near half of everything and for light bags.
+/// For each number of pans and for targets of so much of everything, from which table on the halves are the faster way.
 fn by_pans(rooms: &mut Rooms, ticks: &Ticks, x: &mut Random) {
-    println!("\n## The size rule: the first table of so many bytes that takes longer than the halves\n");
-    println!("| pans | entries of both halves | light bags (target 4 of the mean pans) | bytes an entry | target half of everything | bytes an entry |");
-    println!("|---|---|---|---|---|---|");
-    for pans in [6, 8, 10, 12, 14, 16, 18, 20, 22, 24usize] {
+    println!("\n## The size rule: the first table that takes longer than the halves, in bytes (and bytes for each entry of both halves)\n");
+    println!("| pans | entries of both halves | target an 8th of everything | a 6th | a 4th | a 3rd | half |");
+    println!("|---|---|---|---|---|---|---|");
+    for pans in [8, 12, 16, 20, 22, 24usize] {
         let entries = (1usize << (pans / 2)) + (1usize << (pans - pans / 2));
-        let mut cells = Vec::new();
-        for light in [true, false] {
-            let mut first = None;
-            let mut scale = 4.0f64;
-            while first.is_none() && scale < 80_000.0 {
-                let most = (scale * 60.0 / 32.5) as u32;
-                let rings: Vec<Ring> = (0..60)
-                    .map(|_| {
-                        let weights = x.weights(pans, (most / 12).max(1), most);
-                        let sum = weights.iter().sum::<u32>();
-                        let target = if light { (4.0 * scale) as u32 } else { sum / 2 };
-                        Ring::young(target.clamp(1, 1_000_000), target / 10, 24, weights)
-                    })
-                    .collect();
-                let halves = time(Engine::Halves, &rings, rooms, ticks, 2e4).median;
-                let table = time(Engine::Table, &rings, rooms, ticks, 2e4).median;
-                if table > halves {
-                    first = Some(rings[0].table_bytes());
-                }
-                scale *= 1.25;
-            }
-            match first {
-                Some(bytes) => cells.push(format!("{bytes} | {:.0}", bytes as f64 / entries as f64)),
-                None => cells.push("none | ".into()),
-            }
-        }
+        let cells = [8, 6, 4, 3, 2].map(|share| match crossing(pans, share, rooms, ticks, x) {
+            Some(bytes) => format!("{bytes} ({:.0})", bytes as f64 / entries as f64),
+            None => "none".into(),
+        });
         println!("| {pans} | {entries} | {} |", cells.join(" | "));
     }
+}
+
+/// The bytes of the first table, with ever heavier pans, that takes longer than the halves.
+fn crossing(pans: usize, share: u32, rooms: &mut Rooms, ticks: &Ticks, x: &mut Random) -> Option<usize> {
+    let mut scale = 4.0f64;
+    while scale < 80_000.0 {
+        let most = (scale * 60.0 / 32.5) as u32;
+        let rings: Vec<Ring> = (0..60)
+            .map(|_| {
+                let weights = x.weights(pans, (most / 12).max(1), most);
+                let target = (weights.iter().sum::<u32>() / share).clamp(1, 1_000_000);
+                Ring::young(target, target / 10, 24, weights)
+            })
+            .collect();
+        let halves = time(Engine::Halves, &rings, rooms, ticks, 2e4).median;
+        let table = time(Engine::Table, &rings, rooms, ticks, 2e4).median;
+        if table > halves {
+            let mut bytes: Vec<usize> = rings.iter().map(Ring::table_bytes).collect();
+            bytes.sort();
+            return Some(bytes[bytes.len() / 2]);
+        }
+        scale *= 1.2;
+    }
+    None
 }
 
 /// A picture with logarithmic axes: a line for each engine.

@@ -43,6 +43,7 @@ impl Walk {
     }
 }
 
+#[inline(never)]
 pub fn best(r: &Ring) -> Answer {
     let n = r.weights.len();
     assert!(r.in_order() && n >= 4);
@@ -85,6 +86,7 @@ pub fn best(r: &Ring) -> Answer {
 }
 
 /// The same walk written plainly: one step a turn, with weight, count and choice kept apart.
+#[inline(never)]
 pub fn plain(r: &Ring) -> Answer {
     let n = r.weights.len();
     let [target, above, limit, _] = r.rule;
