@@ -39,18 +39,19 @@ impl Ring {
         bits(&self.weights, |w| w == 0)
     }
 
-    /// The bytes that the table takes: for each two pans, and once more, a row of whole blocks of 64 and a block in front.
+    /// The bytes that the table takes: a row of W + 16 for each pan that is neither old nor empty, and one more.
     pub fn table_bytes(&self) -> usize {
-        let (mut due, mut free) = (0u32, 0u32);
+        let (mut due, mut free, mut rows) = (0u32, 0u32, 0usize);
         for (w, a) in self.weights.iter().zip(&self.ages) {
             if *a >= self.rule[3] {
                 due += w;
             } else {
                 free += w;
+                rows += (*w > 0) as usize;
             }
         }
         let span = (self.rule[0] + self.rule[1]).saturating_sub(due).min(free);
-        64 * (span as usize / 64 + 2) * (self.weights.len().div_ceil(2) + 1)
+        (span as usize + 16) * (rows + 1)
     }
 }
 

@@ -1,34 +1,13 @@
 //! An unproved table by weight: the same idea as the proved one, in plain Rust over slices.
 use crate::ring::{Answer, Ring};
 
-/// Rows are gone over in blocks of so many bytes, and each has a block of 255 in front.
-const BLOCK: usize = 64;
-
-fn block(row: &[u8], at: usize) -> &[u8; BLOCK] {
-    row[at..at + BLOCK].try_into().unwrap()
-}
-
-/// The row with two pans more: for each weight from a lowest on the least number of pans, with none of the two, one or both.
-fn add_two(row: &[u8], next: &mut [u8], lowest: usize, (first, second): (usize, usize)) {
-    next[..BLOCK].fill(255);
-    let mut at = BLOCK + lowest / BLOCK * BLOCK;
-    while at < row.len() {
-        let none = block(row, at);
-        let one = block(row, at.saturating_sub(first));
-        let other = block(row, at.saturating_sub(second));
-        let both = block(row, at.saturating_sub(first + second));
-        let out: &mut [u8; BLOCK] = (&mut next[at..at + BLOCK]).try_into().unwrap();
-        for x in 0..BLOCK {
-            let alone = one[x].min(other[x]).saturating_add(1);
-            out[x] = none[x].min(alone).min(both[x].saturating_add(2));
-        }
-        at += BLOCK;
+/// The row with one pan more: for each weight the least number of pans without it, or with it and one more.
+fn add_pan(row: &[u8], next: &mut [u8], weight: usize) {
+    let low = weight.min(row.len());
+    next[..low].copy_from_slice(&row[..low]);
+    for ((out, without), with) in next[low..].iter_mut().zip(&row[low..]).zip(row) {
+        *out = (*without).min(with.saturating_add(1));
     }
-}
-
-/// What stands a weight back from a place of a row.
-fn back(row: &[u8], left: usize, weight: usize) -> u8 {
-    row[(BLOCK + left).saturating_sub(weight)]
 }
 
 pub fn best(r: &Ring, room: &mut [u8]) -> Answer {
@@ -56,42 +35,27 @@ pub fn best(r: &Ring, room: &mut [u8]) -> Answer {
         return None;
     }
     let span = (target + above - due).min(free) as usize;
-    let from = target.saturating_sub(due) as usize;
-    let wide = (span / BLOCK + 2) * BLOCK;
-    let pairs = n.div_ceil(2);
-    // an odd pan has none beside it: so much is further back than any row goes
-    let two = |k: usize| (pans[2 * k].1, if 2 * k + 1 < n { pans[2 * k + 1].1 } else { wide });
-    let rows = &mut room[..wide * (pairs + 1)];
+    // whole vectors: what stands behind a row's end is worked out too, and never looked at
+    let wide = (span + 16) & !15;
+    let rows = &mut room[..wide * (n + 1)];
     rows[..wide].fill(255);
-    rows[BLOCK] = 0;
-    let mut before = free as usize;
-    for k in 0..pairs {
-        let (first, second) = two(pairs - 1 - k);
-        before -= first + if second < wide { second } else { 0 };
+    rows[0] = 0;
+    for (k, (_, w)) in pans[..n].iter().rev().enumerate() {
         let (row, next) = rows[k * wide..(k + 2) * wide].split_at_mut(wide);
-        add_two(row, next, from.saturating_sub(before), (first, second));
+        add_pan(row, next, *w);
     }
     let limit = (limit - held).min(254) as u8;
-    let top = &rows[pairs * wide + BLOCK..];
+    let from = target.saturating_sub(due) as usize;
+    let top = &rows[n * wide..];
     let found = (from..span + 1).find(|x| top[*x] <= limit)?;
-    let (mut left, mut count) = (found, top[found]);
-    let mut k = 0;
-    while count > 0 {
-        let row = &rows[(pairs - 1 - k) * wide..][..wide];
-        let (first, second) = two(k);
-        let with = back(row, left, first).min(back(row, left, first + second).saturating_add(1));
-        if with < count {
-            opened |= 1 << pans[2 * k].0;
-            left -= first;
-            count = with;
+    let (mut left, mut row) = (found, n * wide);
+    for (i, w) in &pans[..n] {
+        let whole = row + left;
+        row -= wide;
+        if *w <= left && rows[row + left - w] < rows[whole] {
+            opened |= 1 << i;
+            left -= w;
         }
-        let with = back(row, left, second);
-        if with < count {
-            opened |= 1 << pans[2 * k + 1].0;
-            left -= second;
-            count = with;
-        }
-        k += 1;
     }
     Some((opened, due + found as u32))
 }

@@ -3,4 +3,3 @@ mod Looking
 pub mod Blocks
 pub mod Choices
 pub mod Numbers
-pub mod Tallies

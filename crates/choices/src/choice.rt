@@ -4,7 +4,7 @@ ghost use Rattle.choices.specs.Numbered.{choice_of, number_of};
 ghost use Rattle.std.specs.Prelude.{◌≡◌, length};
 
 use crate::ring::Ring;
-use crate::tally::{look, waiting};
+use crate::tally::look;
 
 // What the opened pans weigh together.
 pub fn weight(ring: Ring, choice: u32) -> u32
@@ -24,7 +24,12 @@ pub fn count(ring: Ring, choice: u32) -> u32
 pub fn fits(ring: Ring, choice: u32) -> bool
     ensures { result ≡ fits_rule ring.entry.rule ring.entry.weights.now ring.entry.ages.now (choice_of (length ring.entry.weights.now) choice) }
 {
-    look(ring, choice).fits(ring.rule, waiting(ring))
+    let seen = look(ring, choice);
+    let rule = ring.rule;
+    (rule.target <= seen.weight)
+        & (seen.weight <= rule.target + rule.above)
+        & (seen.pans <= rule.pans)
+        & (seen.filled & seen.waited)
 }
 
 // The number that is answered for a choice: 2 to the power of each opened pan's number, added.

@@ -1,4 +1,6 @@
 // Pans, rules and choices: what a choice weighs, how many pans it opens, and whether it fits a rule.
+#![tactic(auto)]
+
 mod choice;
 mod ring;
 mod rule;
@@ -7,4 +9,4 @@ mod tally;
 pub use choice::{count, fits, number, weight};
 pub use ring::Ring;
 pub use rule::Rule;
-pub use tally::{Tally, look, waiting};
+pub use tally::{Tally, look};

@@ -1,7 +1,7 @@
 -- What is kept in vectors is lent as slices: what holds of the slices holds of the vectors.
 use Rattle.std.proofs.Common.{◌≡◌, ℕ, List, length, Option, ◌∙◌}
 use Rattle.seasons.specs.Fall.{fall_refusal}
-use Rattle.replies.specs.declared.replies.Reply.{Reply}
+use Rattle.text.specs.declared.replies.Reply.{Reply}
 use Rattle.desk.specs.Answers.{Bagged, PlayedSo, FellSo}
 
 pub bagged_at :

@@ -4,14 +4,14 @@
 --   Bagged, PlayedSo, FellSo   a bag, a season or a handful was asked for
 use Rattle.std.specs.Prelude.{◌≡◌, ℕ, List, Some, None, Ok, Err, Option, Result, slice_set}
 use Rattle.packing.specs.Entry.{Answered}
-use Rattle.refusals.specs.Refusals.{refusal_number, refusal_place, room_refusal, rule_in}
+use Rattle.packing.specs.Refusals.{refusal_number, refusal_place, room_refusal, rule_in}
 use Rattle.packing.specs.declared.entry.Done.{Done}
 use Rattle.packing.specs.declared.entry.Done.TheVariants.{Bag as MadeBag, None as MadeNone, Refused as MadeRefused}
-use Rattle.refusals.specs.declared.refusal.Refusal.{Refusal}
+use Rattle.packing.specs.declared.refusal.Refusal.{Refusal}
 use Rattle.seasons.specs.Season.{season_refusal, Seasoned, Keeps}
 use Rattle.seasons.specs.declared.played.Played.{Played}
-use Rattle.replies.specs.declared.replies.Reply.{Reply}
-use Rattle.replies.specs.declared.replies.Reply.TheVariants.{Open, None as NoChoice, Refused, Season}
+use Rattle.text.specs.declared.replies.Reply.{Reply}
+use Rattle.text.specs.declared.replies.Reply.TheVariants.{Open, None as NoChoice, Refused, Season}
 
 abbrev pub refused : Refusal → Reply
 refused f = Refused (refusal_number f) (refusal_place f)

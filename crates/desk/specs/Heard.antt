@@ -3,11 +3,11 @@
 --   Unread     a line that is how no command is written: it is turned away at its number, and nothing changes
 --   Obeyed     a line that is how a command is written: the command is obeyed
 use Rattle.std.specs.Prelude.{◌≡◌, ℕ, ◌⊎◌, List, Some, None, Ok, Err, Option, Result}
-use Rattle.refusals.specs.declared.refusal.Refusal.TheVariants.{Line}
+use Rattle.packing.specs.declared.refusal.Refusal.TheVariants.{Line}
 use Rattle.text.specs.Reading.{Passed, Says, Unwritten}
 use Rattle.text.specs.declared.commands.Command.{Command}
-use Rattle.numerals.specs.declared.fault.Fault.{Fault}
-use Rattle.replies.specs.declared.replies.Reply.{Reply}
+use Rattle.text.specs.declared.commands.Fault.{Fault}
+use Rattle.text.specs.declared.replies.Reply.{Reply}
 use Rattle.desk.specs.Answers.{refused}
 use Rattle.desk.specs.Kept.{State}
 use Rattle.desk.specs.Obeys.{Obeys}

@@ -3,7 +3,7 @@ use Rattle.std.specs.Prelude.{◌≡◌, ℕ, Some, None, vec_items, Option}
 use Rattle.seasons.specs.Fall.{fall_refusal}
 use Rattle.text.specs.declared.commands.Command.{Command}
 use Rattle.text.specs.declared.commands.Command.TheVariants.{Rule, Pans, Ages, Handfuls, Bag, Fall, Bags}
-use Rattle.replies.specs.declared.replies.Reply.{Reply}
+use Rattle.text.specs.declared.replies.Reply.{Reply}
 use Rattle.desk.specs.Answers.{Bagged, PlayedSo, FellSo}
 use Rattle.desk.specs.Kept.{State}
 

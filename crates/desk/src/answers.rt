@@ -3,10 +3,9 @@ ghost use Rattle.desk.specs.Answers.{Bagged, FellSo, PlayedSo, refused as refuse
 ghost use Rattle.seasons.specs.Fall.{fall_refusal};
 ghost use Rattle.std.specs.Prelude.{◌≡◌, length};
 
-use packing::{Done, bag_in};
-use refusals::{Refusal, turned_away_in};
-use replies::Reply;
+use packing::{Done, Refusal, bag_in, turned_away_in};
 use seasons::{fall, season};
+use text::Reply;
 
 // A refusal as it is printed.
 pub(crate) fn refused(refusal: Refusal) -> Reply

@@ -5,11 +5,9 @@ ghost use Rattle.desk.specs.Kept.{state_of};
 use crate::answers::refused;
 use crate::kept::Desk;
 use crate::obeying::obey;
-use numerals::Fault;
-use refusals::Refusal;
-use replies::Reply;
+use packing::Refusal;
 use std::alloc::Global;
-use text::{Line, read};
+use text::{Fault, Line, Reply, read};
 
 // What is answered to a line, given without its end, and by its number from 0 on: nothing where there is nothing to say.
 // A fault is want of memory, and then nothing changes.

@@ -16,8 +16,8 @@ pub struct Desk {
     pub bytes: Vec<u8>,
 }
 
-// Bytes for the table by weight, as many as it is ever asked for, 250 for each entry of the halves: beyond, these are the faster way.
-pub const TABLE_ROOM: usize = 1_024_000;
+// Bytes for the table by weight, as many as it is ever asked for: at 24 pans the halves are the faster way beyond.
+pub const TABLE_ROOM: usize = 409_600;
 
 // A desk with nothing on it. The rooms are asked for once, here: want of memory is an ordinary error.
 pub fn empty_desk(heap: Global) -> Result<Desk, AllocError>

@@ -1,4 +1,6 @@
 // The desk: what the program keeps between its lines, and what it answers to each.
+#![tactic(auto)]
+
 mod answers;
 mod hearing;
 mod kept;

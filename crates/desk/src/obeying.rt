@@ -4,8 +4,7 @@ ghost use Rattle.desk.specs.Obeys.{Obeys};
 
 use crate::answers::{bag_reply, fall_reply, season_reply};
 use crate::kept::Desk;
-use replies::Reply;
-use text::Command;
+use text::{Command, Reply};
 
 // Does what a command asks for, and answers what is printed; the line is where it stands.
 pub fn obey(desk: &mut Desk, command: Command, line: u64) -> Option<Reply>

@@ -4,11 +4,11 @@ ghost use Rattle.std.specs.Prelude.{◌≡◌, ◌≤◌, length};
 ghost use Rattle.choices.specs.Choice.{fits};
 ghost use Rattle.exports.specs.Exported.{Told as Says, bag_number, table_refusal};
 ghost use Rattle.order.specs.Order.{Found};
-ghost use Rattle.refusals.specs.Refusals.{first_refusal, room_refusal, rule_in};
+ghost use Rattle.packing.specs.Refusals.{first_refusal, room_refusal, rule_in};
 
 use choices::Ring;
 use order::Bag;
-use refusals::{Refusal, rule_in, turned_away, turned_away_in};
+use packing::{Refusal, rule_in, turned_away, turned_away_in};
 
 // A bag as one number.
 fn number(found: Option<Bag>) -> u64
@@ -76,12 +76,11 @@ pub extern "C" fn weigh_by_table<'a>(
                 weights,
                 ages,
             };
-            let seen = table::survey(ring);
-            let takes = table::room_for(ring, seen);
+            let takes = table::room_for(ring);
             if takes > bytes.len() {
                 return Refusal::Room(takes as u64).number();
             }
-            number(table::best(ring, seen, bytes))
+            number(table::best(ring, bytes))
         }
     }
 }

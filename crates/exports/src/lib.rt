@@ -1,4 +1,6 @@
 // What programs in other languages may call: the engines and the season, on numbers and lent slices.
+#![tactic(auto)]
+
 mod bags;
 mod seasons_told;
 mod told;

@@ -1,6 +1,10 @@
--- The lemmas that several proofs share.
+-- The lemmas that several proofs share, here and in the crates above.
+mod Growing
 mod Answered
-mod Asking
-mod Cutting
+mod ByPan
 mod Joining
-mod Placed
+mod Merging
+pub mod Places
+mod Rooms
+mod Sieving
+mod Sweeping

@@ -1,66 +1,54 @@
 // The two halves in a lent room: filled once, and asked for the next choice from any place on.
-ghost use Rattle.std.specs.Prelude.{◌≡◌, ℕ, ◌+◌, ◌*◌, ◌^◌, ◌≤◌, length, drop};
-ghost use Rattle.halves.specs.Half.{Half};
-ghost use Rattle.halves.specs.Next.{Filled, Next, before, half_of, room_for};
-ghost use Rattle.sieves.specs.Sieve.{part as part_of};
+ghost use Rattle.std.specs.Prelude.{◌≡◌, ℕ, ◌*◌, ◌/◌, ◌^◌, ◌≤◌, length, slice_index};
+ghost use Rattle.halves.specs.Next.{Filled, Next, room_for};
 
+use crate::bounds::Bounds;
 use crate::filled::Halves;
-use crate::rooms::{entries, half_of};
-use growth::part;
-use pairs::{Sizes, both};
-use places::Pans;
-use sieves::{Bounds, thin};
-use sweeps::least;
+use crate::half::half;
+use crate::pans::Pans;
+use crate::sweep::least;
 
-// So many pans behind the first `skip`.
-fn between<'a>(pans: Pans<'a>, skip: usize, len: usize) -> Pans<'a>
-    requires { skip + len ≤ length pans.weights.now }
-    ensures weights { result.weights.now ≡ part_of skip len pans.entry.weights.now }
-    ensures ways { result.ways.now ≡ part_of skip len pans.entry.ways.now }
+// Room for 24 pans, which is the most that a ring has.
+pub const ROOM: usize = 8192;
+
+// Where the room of the front half ends and that of the back half begins.
+fn cut(pans: usize) -> usize
+    requires { pans ≤ 25 }
+    ensures { result ≡ 2 ^ (pans / 2) }
 {
-    let end = skip + len;
-    Pans {
-        weights: &pans.weights[skip..end],
-        ways: &pans.ways[skip..end],
+    1 << (pans / 2)
+}
+
+// How many entries the halves of so many pans take.
+pub fn room_for(pans: usize) -> usize
+    requires { pans ≤ 24 }
+    ensures value { result ≡ room_for pans }
+    ensures enough { result ≤ 8192 }
+{
+    cut(pans) + cut(pans + 1)
+}
+
+// The room for 24 pans, which is enough for every ring.
+pub fn full_room() -> usize
+    ensures value { result ≡ room_for 24 }
+    ensures enough { (n : ℕ) → n ≤ 24 → room_for n ≤ result }
+{
+    ROOM
+}
+
+// What lies in the heaviest pan.
+fn heaviest(weights: &[u32]) -> u32
+    ensures most { (i : ℕ) → slice_index weights.now i ≤ result }
+    ensures among { (i : ℕ) × (slice_index weights.now i ≡ result) }
+{
+    let mut most = 0;
+    for w in weights {
+        most = most.max(*w);
     }
+    most
 }
 
-// The entries of the one or two pans before the halves; gives how many there are.
-fn topped(pans: Pans, half: usize, bounds: Bounds, tops: &mut [u64]) -> usize
-    requires half { half ≡ half_of (length pans.weights.now) }
-    requires room { length tops.old ≡ 4 }
-    ensures tops { Half bounds pans.entry.weights.now pans.entry.ways.now 0 (before (length pans.entry.weights.now)) tops.new result }
-    ensures few { result ≤ 4 }
-{
-    let behind = half + half;
-    let first = pans.weights.len() - behind;
-    let made = part(between(pans, 0, first), behind, bounds.to, tops);
-    thin(pans, 0, first, bounds, tops, made)
-}
-
-// The entries of both halves; gives how many there are of each.
-fn halved(pans: Pans, half: usize, bounds: Bounds, room: &mut [u64]) -> Sizes
-    requires half { half ≡ half_of (length pans.weights.now) }
-    requires room { room_for (length pans.weights.now) ≤ length room.old }
-    ensures front { Half bounds pans.entry.weights.now pans.entry.ways.now (before (length pans.entry.weights.now)) half room.new result.front }
-    ensures back { Half bounds pans.entry.weights.now pans.entry.ways.now (before (length pans.entry.weights.now) + half) half (drop (2 ^ half) room.new) result.back }
-{
-    let cut = entries(half);
-    let first = pans.weights.len() - (half + half);
-    let second = first + half;
-    let sizes = both(
-        between(pans, first, half),
-        between(pans, second, half),
-        bounds.to,
-        cut,
-        room,
-    );
-    let front = thin(pans, first, half, bounds, room, sizes.front);
-    let back = thin(pans, second, half, bounds, &mut room[cut..], sizes.back);
-    Sizes { front, back }
-}
-
-// Fills the room with what opens at most `limit` pans, weighs `least` or more and lies below `to`.
+// Fills both halves with what opens at most `limit` pans, weighs `least` or more and lies below `to`.
 pub fn fill(pans: Pans, limit: u32, least: u32, to: u64, room: &mut [u64]) -> Halves
     requires { room_for (length pans.weights.now) ≤ length room.old }
     ensures filled { Filled pans.entry.weights.now pans.entry.ways.now room.new result }
@@ -71,17 +59,25 @@ pub fn fill(pans: Pans, limit: u32, least: u32, to: u64, room: &mut [u64]) -> Ha
     let bounds = Bounds {
         limit: u64::from(limit),
         least: u64::from(least),
+        heaviest: u64::from(heaviest(pans.weights)),
         to,
     };
-    let half = half_of(pans.weights.len());
-    let mut tops = [0; 4];
-    let top = topped(pans, half, bounds, &mut tops);
-    let sizes = halved(pans, half, bounds, room);
+    let count = pans.weights.len();
+    let mid = count / 2;
+    let (front_weights, back_weights) = pans.weights.split_at(mid);
+    let (front_ways, back_ways) = pans.ways.split_at(mid);
+    let at = cut(count);
+    let front = half(
+        front_weights,
+        front_ways,
+        count - mid,
+        bounds,
+        &mut room[0..at],
+    );
+    let back = half(back_weights, back_ways, 0, bounds, &mut room[at..]);
     Halves {
-        tops,
-        top,
-        front: sizes.front,
-        back: sizes.back,
+        front,
+        back,
         bounds,
     }
 }
@@ -92,15 +88,13 @@ pub fn next(pans: Pans, halves: Halves, room: &[u64], from: u64) -> Option<u64>
     requires enough { halves.bounds.least * 2 ^ 29 ≤ from }
     ensures { Next halves.bounds.limit pans.entry.weights.now pans.entry.ways.now from halves.bounds.to result }
 {
-    let cut = entries(half_of(pans.weights.len()));
-    let end = cut + halves.back;
-    let top = halves.top;
+    let at = cut(pans.weights.len());
     let front = halves.front;
+    let end = at + halves.back;
     let to = halves.bounds.to;
     let found = least(
-        &halves.tops[0..top],
         &room[0..front],
-        &room[cut..end],
+        &room[at..end],
         halves.bounds.limit,
         from,
         to,

@@ -1,10 +1,22 @@
-// The best bag by two halves of the pans: the choices of each half in order, and a sweep over both beside the pans before them.
+// The best bag by two halves of the pans: the choices of each half in order, and a sweep over both.
+#![tactic(auto)]
+
 mod answer;
+mod bounds;
 mod filled;
+mod grow;
+mod half;
 mod halves;
-mod rooms;
+mod pans;
+mod place;
+mod sieve;
+mod sweep;
+mod way;
 
 pub use answer::best;
+pub use bounds::Bounds;
 pub use filled::Halves;
-pub use halves::{fill, next};
-pub use rooms::{ROOM, full_room, room_for};
+pub use halves::{ROOM, fill, full_room, next, room_for};
+pub use pans::Pans;
+pub use place::{bag_in, pans_in, weight_in};
+pub use way::Way;

@@ -1,4 +1,6 @@
 // The order of choices, the best of all that are allowed, and the laws that hold of it.
+#![tactic(auto)]
+
 mod bag;
 mod compare;
 mod laws;

@@ -1,9 +1,13 @@
--- A law of the entries, as a statement.
-use Rattle.std.specs.Prelude.{◌≡◌, ℕ, ◌≤◌, List, length}
+-- Laws of the entry, as statements.
+use Rattle.std.specs.Prelude.{◌≡◌, ℕ, ◌≤◌, List, length, None}
 use Rattle.halves.specs.Next.{room_for}
 use Rattle.packing.specs.Entry.{Answered}
-use Rattle.refusals.specs.Refusals.{first_refusal, room_refusal, rule_in}
+use Rattle.packing.specs.Refusals.{Accepted, first_refusal, room_refusal, rule_in}
 use Rattle.packing.specs.declared.entry.Done.{Done}
+
+abbrev pub RefusalsAreExact : Type 0
+RefusalsAreExact =
+    (rs ws as' : List ℕ) → (first_refusal rs ws as' ≡ None → Accepted rs ws as') × (Accepted rs ws as' → first_refusal rs ws as' ≡ None)
 
 -- two entries answered the same and left the same
 pub record Alike (d : Done) (ws₁ as₁ : List ℕ) (e : Done) (ws₂ as₂ : List ℕ) : Type 0 where

@@ -1,3 +1,4 @@
 -- The definitions that contracts cite.
+pub mod Refusals
 pub mod Entry
 pub mod Laws

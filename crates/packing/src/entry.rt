@@ -1,11 +1,12 @@
 // The entry: a bag is made of the lent pans, or it is said that none can be, or why nothing is taken.
 ghost use Rattle.packing.specs.Entry.{Answered, done_of};
-ghost use Rattle.refusals.specs.Refusals.{first_refusal, room_refusal, rule_in};
+ghost use Rattle.packing.specs.Refusals.{first_refusal, room_refusal, rule_in};
 ghost use Rattle.std.specs.Prelude.{◌≡◌, length};
 
 use crate::one_bag::{pack, pack_by_scan};
+use crate::refusal::{turned_away, turned_away_in};
+use choices::Rule;
 use order::Bag;
-use refusals::{rule_in, turned_away, turned_away_in};
 
 // What the entry answers.
 #[derive(Clone, Copy)]
@@ -27,6 +28,19 @@ impl Done {
             None => Done::None,
             Some(bag) => Done::Bag(bag.pans, bag.weight),
         }
+    }
+}
+
+// A rule in numbers: target, above, pans, age.
+pub fn rule_in(rule: &[u32]) -> Rule
+    requires { length rule.now ≡ 4 }
+    ensures { result ≡ rule_in rule.now }
+{
+    Rule {
+        target: rule[0],
+        above: rule[1],
+        pans: rule[2],
+        age: rule[3],
     }
 }
 

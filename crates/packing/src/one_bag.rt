@@ -4,7 +4,7 @@ ghost use Rattle.choices.specs.Choice.{aged, emptied, fits};
 ghost use Rattle.choices.specs.Numbered.{choice_from};
 ghost use Rattle.order.specs.Order.{Found};
 ghost use Rattle.packing.specs.Entry.{Packs};
-ghost use Rattle.refusals.specs.Refusals.{Ready};
+ghost use Rattle.packing.specs.Refusals.{Ready};
 
 use crate::marks::{age, empty};
 use choices::{Ring, Rule};

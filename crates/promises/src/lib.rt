@@ -1,4 +1,6 @@
 // What is promised of every ring and every row of bags, each promise asked for by a function's contract.
+#![tactic(auto)]
+
 ghost use Rattle.promises.specs.Examples.{EmptyAndOld, FewerPans, FirstPair};
 ghost use Rattle.promises.specs.Promises.{BagsWeighEnough, LooserIsLighter, NoPanWaitsTooLong, NothingLost, OneBestOrNone, RowsLoseNothing};
 

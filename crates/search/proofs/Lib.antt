@@ -1,5 +1,4 @@
 -- The lemmas that several proofs share, here and in the crates above.
-mod Groups
-mod Useless
 pub mod Steps
+pub mod Useless
 pub mod Whole

@@ -1,4 +1,3 @@
 -- The definitions that contracts cite.
 pub mod Block
-pub mod Groups
 pub mod Sought

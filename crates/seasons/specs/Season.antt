@@ -12,9 +12,9 @@ use Rattle.choices.specs.Choice.{fits}
 use Rattle.choices.specs.declared.rule.Rule.{Rule}
 use Rattle.order.specs.Order.{NoneOf}
 use Rattle.packing.specs.Entry.{Made, Same}
-use Rattle.refusals.specs.Refusals.{or_else, first_above, first_refusal, rule_in}
-use Rattle.refusals.specs.declared.refusal.Refusal.{Refusal}
-use Rattle.refusals.specs.declared.refusal.Refusal.TheVariants.{Number, Line}
+use Rattle.packing.specs.Refusals.{or_else, first_above, first_refusal, rule_in}
+use Rattle.packing.specs.declared.refusal.Refusal.{Refusal}
+use Rattle.packing.specs.declared.refusal.Refusal.TheVariants.{Number, Line}
 use Rattle.promises.specs.Promises.{Young}
 use Rattle.promises.specs.Rows.{Stand, total}
 use Rattle.seasons.specs.Handfuls.{hands, place, empties, filled}

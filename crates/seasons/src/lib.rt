@@ -1,4 +1,6 @@
 // Bag after bag: handfuls that fall into empty pans, and seasons of bags with handfuls from a list.
+#![tactic(auto)]
+
 mod falling;
 mod handfuls;
 mod played;

@@ -1,13 +1,12 @@
 // Seasons: bag after bag, with handfuls of a list falling into the empty pans after each.
 ghost use Rattle.std.specs.Prelude.{◌≡◌, ℕ, ◌+◌, ◌*◌, ◌≤◌, None, slice_index};
-ghost use Rattle.refusals.specs.Refusals.{Accepted, Ready, rule_in};
+ghost use Rattle.packing.specs.Refusals.{Accepted, Ready, rule_in};
 ghost use Rattle.seasons.specs.Season.{Keeps, Plays, Seasoned, season_refusal};
 
 use crate::handfuls::refill;
 use crate::played::Played;
 use choices::Rule;
-use packing::pack;
-use refusals::{Refusal, first_above, rule_in, turned_away};
+use packing::{Refusal, first_above, pack, rule_in, turned_away};
 
 // What is told of so many bags of so much weight.
 fn told(rule: Rule, bags: u32, weight: u64, ended_early: bool) -> Played

@@ -6,16 +6,25 @@ use Rattle.choices.specs.Choice.{Choice, weight_of, opened, none_empty, keeps_ol
 use Rattle.choices.specs.declared.rule.Rule.{Rule}
 use Rattle.choices.proofs.Choices.{Fitting, fitting, fits_from}
 use Rattle.order.specs.Order.{better, first_more, NoneOf, BestBag}
-use Rattle.table.specs.Pans.{due_weight, due_pans, free_weight, none_due_empty, span_of, pairs_of, row_bytes, table_bytes}
+use Rattle.table.specs.Pans.{due_weight, due_pans, free_weight, free_pans, none_due_empty, span_of, row_bytes, table_bytes}
 use Rattle.table.specs.Rows.{Makes, Row, Rows, Read, Lightest, LightestAt}
 use Rattle.table.specs.Surveyed.{Surveyed, LeavesABag, Laid}
-use Rattle.table.specs.declared.seen.Survey.{Survey}
-use Rattle.table.proofs.Making.{due_le, held_le, opened_le}
+use Rattle.table.specs.declared.survey.Survey.{Survey}
+use Rattle.table.proofs.Making.{due_le}
 use Rattle.table.proofs.Surveying.{span_is}
-use Rattle.table.proofs.Joining.{row_wide}
-use Rattle.table.proofs.Filling.{rows_all}
 
 -- ---- what any choice has
+
+pub held_le : (old : ℕ) (as' : List ℕ) (cs : Choice) → length cs ≡ length as' → keeps_old old as' cs ≡ true → due_pans old as' ≤ opened cs
+held_le old [] cs e h = omega arith
+held_le old (a ∷ as') [] e h = absurd (omega arith)
+held_le old (a ∷ as') (true ∷ cs) e h = omega (arith, one (ltb a old), held_le old as' cs (omega arith) h)
+  where
+    one : (b : Bool) → cond b 0 1 ≤ 1
+    one true = omega arith
+    one false = omega arith
+held_le old (a ∷ as') (false ∷ cs) e h =
+    let p = and_parts (ltb a old) (keeps_old old as' cs) h in rw p.0 (omega (arith, held_le old as' cs (omega arith) p.1))
 
 pub none_due_from :
     (old : ℕ) (ws as' : List ℕ) (cs : Choice) → length cs ≡ length ws → none_empty ws cs ≡ true → keeps_old old as' cs ≡ true → none_due_empty old ws as' ≡ true
@@ -28,6 +37,11 @@ none_due_from old (w ∷ ws) (a ∷ as') (true ∷ cs) e f h =
 none_due_from old (w ∷ ws) (a ∷ as') (false ∷ cs) e f h =
     let p = and_parts (ltb a old) (keeps_old old as' cs) h in
     rw p.0 (none_due_from old ws as' cs (omega arith) f p.1)
+
+opened_le : (cs : Choice) → opened cs ≤ length cs
+opened_le [] = omega arith
+opened_le (true ∷ cs) = omega (arith, opened_le cs)
+opened_le (false ∷ cs) = omega (arith, opened_le cs)
 
 weight_le : (old : ℕ) (ws as' : List ℕ) (cs : Choice) → length as' ≡ length ws → weight_of ws cs ≤ due_weight old ws as' + free_weight old ws as'
 weight_le old [] as' cs e = omega arith
@@ -96,7 +110,7 @@ pub record Window (r : Rule) (ws as' : List ℕ) (most start from limit : ℕ) (
   pub held : due_pans r.age as' ≤ r.pans
   pub due : due_weight r.age ws as' ≤ r.target + r.above
   pub span : most ≡ span_of r ws as'
-  pub row : Row r.age ws as' from most (λ x. get_or bytes (start + x) 0)
+  pub row : Row r.age ws as' most start bytes
   pub enough : from ≡ r.target - due_weight r.age ws as'
   pub few : limit ≡ min (r.pans - due_pans r.age as') 254
 
@@ -105,7 +119,7 @@ missed :
     {r : Rule} {ws as' : List ℕ} {most start from limit : ℕ} {bytes : List ℕ} {y : ℕ} {cs : Choice} → Window r ws as' most start from limit bytes →
     Wanted r ws as' y cs → limit < get_or bytes (start + y) 0 → ⊥
 missed {y = y} {cs = cs} t w more =
-    let low = (t.row.least y (omega (arith, t.enough, w.enough)) (omega (arith, t.span, w.within))).low cs w.makes in omega (arith, low, w.few, w.small, t.small, t.few)
+    let low = (t.row.least y (omega (arith, t.span, w.within))).low cs w.makes in omega (arith, low, w.few, w.small, t.small, t.few)
 
 pub none_found :
     {r : Rule} {ws as' : List ℕ} {most start from limit : ℕ} {bytes : List ℕ} → Window r ws as' most start from limit bytes →
@@ -132,7 +146,7 @@ best_found {r} {ws} {as'} {most} {start} {from} {limit} {x} {number} {bytes} t h
     }
   where
     some : (es : Choice) × Makes r.age ws as' x es × (opened es ≡ due_pans r.age as' + get_or bytes (start + x) 0)
-    some = (t.row.least x h.enough h.within).some (omega (arith, h.few, t.few))
+    some = (t.row.least x h.within).some (omega (arith, h.few, t.few))
 
     fitted : Fitting r ws as' c.choice
     fitted =
@@ -181,7 +195,7 @@ leaves_from {r} {s = s} h test =
 
 pub laid :
     {r : Rule} {ws as' : List ℕ} {s : Survey} {most long : ℕ} → Surveyed r.age ws as' s → r.target ≤ 1000000 → r.above ≤ 1000000 →
-    most ≡ min (r.target + r.above - s.due) s.free → table_bytes r ws as' ≤ long → Laid r ws as' most (row_bytes most * pairs_of (length ws)) long
+    most ≡ min (r.target + r.above - s.due) s.free → table_bytes r ws as' ≤ long → Laid r ws as' most (row_bytes most * s.rows) long
 unfolding table_bytes
 laid {r} {ws} {as'} {s} {most} h target above is enough =
     let span = is ∙ span_is r ws as' s h in
@@ -190,14 +204,14 @@ laid {r} {ws} {as'} {s} {most} h target above is enough =
       span = span;
       small = omega arith;
       enough = room;
-      top = refl;
-      last = omega (arith, room, row_wide most, mul-add (row_bytes most) (pairs_of (length ws)) 1, mul-one (row_bytes most));
+      top = rw h.rows refl;
+      last = rw h.rows (omega (arith, room, mul-add (row_bytes most) (free_pans r.age ws as') 1, mul-one (row_bytes most)));
     }
 
 pub window :
     {r : Rule} {ws as' : List ℕ} {s : Survey} {most start long from limit : ℕ} {bytes : List ℕ} → Surveyed r.age ws as' s → LeavesABag r ws as' →
-    Laid r ws as' most start long → length as' ≡ length ws → length ws ≤ 24 → Rows r.age ws as' from most (row_bytes most) 0 bytes →
-    from ≡ r.target - s.due → limit ≡ min (r.pans - s.held) 254 → Window r ws as' most (start + 64) from limit bytes
+    Laid r ws as' most start long → length as' ≡ length ws → length ws ≤ 24 → Rows r.age ws as' most (row_bytes most) 0 bytes →
+    from ≡ r.target - s.due → limit ≡ min (r.pans - s.held) 254 → Window r ws as' most start from limit bytes
 window h leaves t paired small rows enough few =
     record {
       paired = paired;
@@ -205,12 +219,7 @@ window h leaves t paired small rows enough few =
       held = leaves.few;
       due = leaves.light;
       span = t.span;
-      row = rw t.top (rows_all rows);
+      row = rw t.top (rows.row 0 (omega arith) (omega arith));
       enough = omega (arith, h.due);
       few = omega (arith, h.held);
     }
-
--- rows for all weights that matter to a window are rows for those that matter to a weight in it
-pub rows_from :
-    {old : ℕ} {ws as' : List ℕ} {from most wide x : ℕ} {bytes : List ℕ} → Rows old ws as' from most wide 0 bytes → from ≤ x → Rows old ws as' x most wide 0 bytes
-rows_from h more = record { row = λ i low high. record { least = λ y enough within. (h.row i low high).least y (omega arith) within }; blank = h.blank }

@@ -1,27 +1,92 @@
--- Rows that are filled from the last two pans to the first: what one row more keeps and adds.
-use Rattle.std.proofs.Common.{◌≡◌, ℕ, zero, suc, ◌+◌, ◌-◌, ◌*◌, ◌<◌, ◌≤◌, Bool, true, false, cond, ◌||◌, ltb, leb, ◌≢◌, ◌⊎◌, List, [], ◌∷◌, length, get_or, drop, sym, refl, ◌∙◌, inl, inr, mul-le-mul_left, mul-one, mul-add, arith}
-use Rattle.std.proofs.lemmas.List.{drop_all, drop_more, get_or_past}
-use Rattle.std.proofs.lemmas.Bool.{cases_lt, and_parts, both_ways}
-use Rattle.table.specs.Pans.{free_weight, free_at, free_before, step_at, none_due_empty, pairs_of}
-use Rattle.table.specs.Rows.{Least, Row, Rows, joined, row_at}
-use Rattle.table.proofs.Joining.{back_far, back_near}
-use Rattle.table.proofs.Making.{least_due, least_barred, least_both, least_cap, least_nothing, least_never}
+-- Rows that are filled from the last pan to the first: what one row more keeps and adds.
+use Rattle.std.proofs.Common.{◌≡◌, ℕ, zero, suc, ◌+◌, ◌-◌, ◌*◌, ◌<◌, ◌≤◌, min, true, false, ◌&&◌, ◌||◌, ltb, leb, ◌⊎◌, List, [], ◌∷◌, length, get_or, drop, sym, refl, inl, inr, mul-le-mul_left, mul-one, mul-add, arith}
+use Rattle.std.proofs.lemmas.List.{drop-drop, drop_all, drop_more}
+use Rattle.std.proofs.lemmas.Bool.{cases_lt, and_parts, both_ways, le-ltb, lt-ltb, le-leb, lt-leb}
+use Rattle.choices.specs.Choice.{bit}
+use Rattle.table.specs.Pans.{free_pans, none_due_empty}
+use Rattle.table.specs.Rows.{Least, Row, Rows}
+use Rattle.table.proofs.Making.{least_due, least_barred, least_both, least_nothing, least_never}
 
-free_drop_le : (old : ℕ) (j : ℕ) (ws as' : List ℕ) → free_weight old (drop j ws) (drop j as') ≤ free_weight old ws as'
+free_drop_le : (old : ℕ) (j : ℕ) (ws as' : List ℕ) → free_pans old (drop j ws) (drop j as') ≤ free_pans old ws as'
 free_drop_le old zero ws as' = omega arith
 free_drop_le old (suc j) [] as' = omega arith
 free_drop_le old (suc j) (w ∷ ws) [] = none (drop j ws)
   where
-    none : (us : List ℕ) → free_weight old us [] ≤ 0
+    none : (us : List ℕ) → free_pans old us [] ≤ 0
     none [] = omega arith
     none (u ∷ us) = omega arith
 free_drop_le old (suc j) (w ∷ ws) (a ∷ as') = omega (arith, free_drop_le old j ws as')
 
-cond_same : (b : Bool) (n : ℕ) → cond b n n ≡ n
-cond_same true n = refl
-cond_same false n = refl
+-- the fewer pans are left, the fewer of them are free
+pub free_drop : (old : ℕ) (ws as' : List ℕ) (i j : ℕ) → i ≤ j → free_pans old (drop j ws) (drop j as') ≤ free_pans old (drop i ws) (drop i as')
+free_drop old ws as' i j h =
+    let e : i + (j - i) ≡ j = omega arith in
+    let le = free_drop_le old (j - i) (drop i ws) (drop i as') in
+    rw (drop-drop (j - i) i ws, drop-drop (j - i) i as', e) at le
 
-pub none_due_at :
+pub row_same :
+    {old : ℕ} {ws as' : List ℕ} {most start : ℕ} {bytes bytes' : List ℕ} → Row old ws as' most start bytes →
+    ((j : ℕ) → j ≤ start + most → get_or bytes' j 0 ≡ get_or bytes j 0) → Row old ws as' most start bytes'
+row_same {start = start} h same = record { least = λ x low. rw (same (start + x) (omega arith)) (h.least x low) }
+
+pub row_due :
+    {old w a : ℕ} {ws as' : List ℕ} {most start : ℕ} {bytes : List ℕ} → ltb a old ≡ false → leb 1 w ≡ true →
+    Row old ws as' most start bytes → Row old (w ∷ ws) (a ∷ as') most start bytes
+row_due e f h = record { least = λ x low. least_due e f (h.least x low) }
+
+pub row_idle :
+    {old w a : ℕ} {ws as' : List ℕ} {most start : ℕ} {bytes : List ℕ} → ltb a old ≡ true → (leb 1 w ≡ true → ⊥) →
+    Row old ws as' most start bytes → Row old (w ∷ ws) (a ∷ as') most start bytes
+row_idle e f h = record { least = λ x low. least_barred e (λ g _. f g) (h.least x low) }
+
+pub row_free :
+    {old w a : ℕ} {ws as' : List ℕ} {most start next : ℕ} {bytes bytes' : List ℕ} → ltb a old ≡ true → leb 1 w ≡ true →
+    Row old ws as' most start bytes →
+    ((x : ℕ) → x ≤ most → x < w → get_or bytes' (next + x) 0 ≡ get_or bytes (start + x) 0) →
+    ((x : ℕ) → x ≤ most → w ≤ x → get_or bytes' (next + x) 0 ≡ min (get_or bytes (start + x) 0) (min (get_or bytes (start + (x - w)) 0 + 1) 255)) →
+    Row old (w ∷ ws) (a ∷ as') most next bytes'
+row_free {old} {w} {a} {ws} {as'} {most} {start} {next} {bytes} {bytes'} e f h without with = record { least = λ x low. at x low (cases_lt x w) }
+  where
+    at : (x : ℕ) → x ≤ most → (x < w) ⊎ (w ≤ x) → Least old (w ∷ ws) (a ∷ as') x (get_or bytes' (next + x) 0)
+    at x low (inl less) = rw (without x low less) (least_barred e (λ g n. omega arith) (h.least x low))
+    at x low (inr heavy) = rw (with x low heavy) (least_both e f heavy (h.least x low) (h.least (x - w) (omega arith)))
+
+-- the rows so far, and where the newest starts
+pub record Filling (old : ℕ) (ws as' : List ℕ) (most wide pan top : ℕ) (bytes : List ℕ) : Type 0 where
+  pub at : top ≡ wide * free_pans old (drop pan ws) (drop pan as')
+  pub rows : Rows old ws as' most wide pan bytes
+
+pub filling_none :
+    (old : ℕ) (ws as' : List ℕ) (most wide : ℕ) (bytes : List ℕ) → length as' ≡ length ws → get_or bytes 0 0 ≡ 0 →
+    ((x : ℕ) → 1 ≤ x → x < most + 1 → get_or bytes x 0 ≡ 255) → Filling old ws as' most wide (length ws) 0 bytes
+filling_none old ws as' most wide bytes paired none rest =
+    record { at = rw (drop_all (length ws) ws (omega arith)) (omega arith); rows = record { row = row } }
+  where
+    least : (x : ℕ) → x ≤ most → Least old [] [] x (get_or bytes (wide * 0 + x) 0)
+    least zero low = let e : wide * 0 + 0 ≡ 0 = omega arith in rw (e, none) least_nothing
+    least (suc x) low = let e : wide * 0 + suc x ≡ suc x = omega arith in rw (e, rest (suc x) (omega arith) (omega arith)) (least_never (suc x) (omega arith))
+
+    row : (i : ℕ) → length ws ≤ i → i ≤ length ws → Row old (drop i ws) (drop i as') most (wide * free_pans old (drop i ws) (drop i as')) bytes
+    row i low high = rw (drop_all i ws (omega arith), drop_all i as' (omega arith)) (record { least = least })
+
+-- the newest row is another one, or the same, and the older ones stay
+rows_more :
+    {old : ℕ} {ws as' : List ℕ} {most wide pan top : ℕ} {bytes bytes' : List ℕ} → Filling old ws as' most wide (pan + 1) top bytes → most < wide →
+    ((j : ℕ) → j < top + wide → get_or bytes' j 0 ≡ get_or bytes j 0) →
+    Row old (drop pan ws) (drop pan as') most (wide * free_pans old (drop pan ws) (drop pan as')) bytes' → Rows old ws as' most wide pan bytes'
+rows_more {old} {ws} {as'} {most} {wide} {pan} {top} {bytes} {bytes'} h less same newest = record { row = λ i low high. at i high (cases_lt pan i) low }
+  where
+    at : (i : ℕ) → i ≤ length ws → (pan < i) ⊎ (i ≤ pan) → pan ≤ i → Row old (drop i ws) (drop i as') most (wide * free_pans old (drop i ws) (drop i as')) bytes'
+    at i high (inl later) low =
+        let few : free_pans old (drop i ws) (drop i as') ≤ free_pans old (drop (pan + 1) ws) (drop (pan + 1) as') = free_drop old ws as' (pan + 1) i (omega arith) in
+        row_same (h.rows.row i (omega arith) high) (λ j le. same j (omega (arith, h.at, mul-le-mul_left wide few)))
+    at i high (inr here) low = let e : i ≡ pan = omega arith in rw e newest
+
+-- what each pan is that has no row: one that has to be opened and is not empty, or one that is empty and may wait
+abbrev pub Rowless : ℕ → ℕ → ℕ → Type 0
+Rowless old w a = ((ltb a old ≡ false) × (leb 1 w ≡ true)) ⊎ ((ltb a old ≡ true) × (leb 1 w ≡ false))
+
+none_due_at :
     (old : ℕ) (ws as' : List ℕ) (i : ℕ) → i < length ws → length as' ≡ length ws → none_due_empty old ws as' ≡ true →
     (ltb (get_or as' i 0) old || leb 1 (get_or ws i 0)) ≡ true
 none_due_at old [] as' i few paired h = absurd (omega arith)
@@ -30,232 +95,77 @@ none_due_at old (w ∷ ws) (a ∷ as') zero few paired h = (and_parts (ltb a old
 none_due_at old (w ∷ ws) (a ∷ as') (suc i) few paired h =
     none_due_at old ws as' i (omega arith) (omega arith) (and_parts (ltb a old || leb 1 w) (none_due_empty old ws as') h).1
 
-module _ (old : ℕ) (ws as' : List ℕ) (i : ℕ) (paired : length as' ≡ length ws) where
-  pub drop_weights : i < length ws → drop i ws ≡ get_or ws i 0 ∷ drop (i + 1) ws
-  drop_weights few = drop_more ws i 0 few
+pub due_filled :
+    (old : ℕ) (ws as' : List ℕ) (i : ℕ) → i < length ws → length as' ≡ length ws → none_due_empty old ws as' ≡ true →
+    old ≤ get_or as' i 0 → (ltb (get_or as' i 0) old ≡ false) × (leb 1 (get_or ws i 0) ≡ true)
+due_filled old ws as' i few paired ready waited =
+    let e = le-ltb (get_or as' i 0) old waited in (e, rw e at (none_due_at old ws as' i few paired ready))
 
-  pub drop_ages : i < length ws → drop i as' ≡ get_or as' i 0 ∷ drop (i + 1) as'
-  drop_ages few = drop_more as' i 0 (omega arith)
+pub rowless :
+    (old : ℕ) (ws as' : List ℕ) (i : ℕ) → i < length ws → length as' ≡ length ws → none_due_empty old ws as' ≡ true →
+    ((get_or as' i 0 < old) × (get_or ws i 0 ≤ 0)) ⊎ (old ≤ get_or as' i 0) → Rowless old (get_or ws i 0) (get_or as' i 0)
+rowless old ws as' i few paired ready (inl (young, empty)) = inr (lt-ltb _ _ young, lt-leb _ _ (omega arith))
+rowless old ws as' i few paired ready (inr waited) = inl (due_filled old ws as' i few paired ready waited)
 
-  pub no_weights : length ws ≤ i → drop i ws ≡ []
-  no_weights past = drop_all i ws past
+module _ (old : ℕ) (ws as' : List ℕ) (i : ℕ) (few : i < length ws) (paired : length as' ≡ length ws) where
+  pub drop_weights : drop i ws ≡ get_or ws i 0 ∷ drop (i + 1) ws
+  drop_weights = drop_more ws i 0 few
 
-  pub no_ages : length ws ≤ i → drop i as' ≡ []
-  no_ages past = drop_all i as' (omega arith)
+  pub drop_ages : drop i as' ≡ get_or as' i 0 ∷ drop (i + 1) as'
+  drop_ages = drop_more as' i 0 (omega arith)
 
-  pub free_past : length ws ≤ i → free_at old ws as' i ≡ 0
-  free_past past = rw (get_or_past ws i 0 past, cond_same (ltb (get_or as' i 0) old) 0) refl
+  pub free_next : free_pans old (drop i ws) (drop i as') ≡ bit (ltb (get_or as' i 0) old && leb 1 (get_or ws i 0)) + free_pans old (drop (i + 1) ws) (drop (i + 1) as')
+  free_next = rw (drop_weights, drop_ages)
 
-  free_next : free_weight old (drop i ws) (drop i as') ≡ free_at old ws as' i + free_weight old (drop (i + 1) ws) (drop (i + 1) as')
-  free_next = at (cases_lt i (length ws))
+  pub free_rowless : Rowless old (get_or ws i 0) (get_or as' i 0) → free_pans old (drop i ws) (drop i as') ≡ free_pans old (drop (i + 1) ws) (drop (i + 1) as')
+  free_rowless (inl (e, f)) = let n = rw e at free_next in omega arith
+  free_rowless (inr (e, f)) = let n = rw (e, f) at free_next in omega arith
+
+  row_rowless :
+      {most start : ℕ} {bytes : List ℕ} → Rowless old (get_or ws i 0) (get_or as' i 0) →
+      Row old (drop (i + 1) ws) (drop (i + 1) as') most start bytes → Row old (drop i ws) (drop i as') most start bytes
+  row_rowless (inl (e, f)) h = rw (drop_weights, drop_ages) (row_due e f h)
+  row_rowless (inr (e, f)) h = rw (drop_weights, drop_ages) (row_idle e (λ g. both_ways _ f g) h)
+
+  -- a pan that has no row of its own
+  pub filling_skip :
+      {most wide top : ℕ} {bytes : List ℕ} → most < wide → Rowless old (get_or ws i 0) (get_or as' i 0) →
+      Filling old ws as' most wide (i + 1) top bytes → Filling old ws as' most wide i top bytes
+  filling_skip {most} {wide} {top} {bytes} less kind h =
+      let e = free_rowless kind in
+      record { at = rw e h.at; rows = rows_more h less (λ j _. refl) (rw e (row_rowless kind (h.rows.row (i + 1) (omega arith) (omega arith)))) }
+
+  -- a pan that has one
+  pub filling_add :
+      {most wide top : ℕ} {bytes bytes' : List ℕ} → most < wide → ltb (get_or as' i 0) old ≡ true → leb 1 (get_or ws i 0) ≡ true →
+      Filling old ws as' most wide (i + 1) top bytes →
+      ((j : ℕ) → j < top + wide → get_or bytes' j 0 ≡ get_or bytes j 0) →
+      ((x : ℕ) → x ≤ most → x < get_or ws i 0 → get_or bytes' (top + wide + x) 0 ≡ get_or bytes (top + x) 0) →
+      ((x : ℕ) → x ≤ most → get_or ws i 0 ≤ x → get_or bytes' (top + wide + x) 0 ≡ min (get_or bytes (top + x) 0) (min (get_or bytes (top + (x - get_or ws i 0)) 0 + 1) 255)) →
+      Filling old ws as' most wide i (top + wide) bytes'
+  filling_add {most} {wide} {top} {bytes} {bytes'} less e f h same without with = record { at = place; rows = rows_more h less same (rw (sym place) whole) }
     where
-      at : (i < length ws) ⊎ (length ws ≤ i) → free_weight old (drop i ws) (drop i as') ≡ free_at old ws as' i + free_weight old (drop (i + 1) ws) (drop (i + 1) as')
-      at (inl few) = rw (drop_weights few, drop_ages few) refl
-      at (inr past) =
-          rw (no_weights past, drop_all (i + 1) ws (omega arith), free_past past) refl
+      place : top + wide ≡ wide * free_pans old (drop i ws) (drop i as')
+      place =
+          let n : free_pans old (drop i ws) (drop i as') ≡ 1 + free_pans old (drop (i + 1) ws) (drop (i + 1) as') = rw (e, f) at free_next in
+          rw n (omega (arith, mul-add wide 1 (free_pans old (drop (i + 1) ws) (drop (i + 1) as')), mul-one wide, h.at))
 
-  -- the free pans before the next one
-  pub before_next : free_before old ws as' (i + 1) ≡ free_before old ws as' i + free_at old ws as' i
-  before_next = omega (arith, free_next, free_drop_le old i ws as')
+      older : Row old (drop (i + 1) ws) (drop (i + 1) as') most top bytes
+      older = rw h.at (h.rows.row (i + 1) (omega arith) (omega arith))
 
-  pub before_le : free_before old ws as' i + free_at old ws as' i ≤ free_weight old ws as'
-  before_le = omega (arith, free_next, free_drop_le old i ws as')
+      whole : Row old (drop i ws) (drop i as') most (top + wide) bytes'
+      whole = rw (drop_weights, drop_ages) (row_free e f older without with)
 
-  -- a pan may be opened or stay shut; or the rows leave it out, and what they hold is the same with it
-  pub data Kind (wide : ℕ) : Type 0 where
-    free : i < length ws → ltb (get_or as' i 0) old ≡ true → leb 1 (get_or ws i 0) ≡ true → step_at old ws as' wide i ≡ get_or ws i 0 → free_at old ws as' i ≡ get_or ws i 0 → Kind wide
-    idle : step_at old ws as' wide i ≡ wide →
-        ((x k : ℕ) → Least old (drop (i + 1) ws) (drop (i + 1) as') x k → Least old (drop i ws) (drop i as') x k) → Kind wide
-
-  pub kind : (wide : ℕ) → none_due_empty old ws as' ≡ true → Kind wide
-  kind wide ready = past_or (cases_lt i (length ws))
-    where
-      here : i < length ws → (b c : Bool) → ltb (get_or as' i 0) old ≡ b → leb 1 (get_or ws i 0) ≡ c → Kind wide
-      here few true true e f = free few e f (rw (e, f) refl) (rw e refl)
-      here few true false e f = idle (rw (e, f) refl) (λ x k l. rw (drop_weights few, drop_ages few) (least_barred e (λ g _. both_ways _ f g) l))
-      here few false true e f = idle (rw e refl) (λ x k l. rw (drop_weights few, drop_ages few) (least_due e f l))
-      here few false false e f = let h = rw (e, f) at (none_due_at old ws as' i few paired ready) in absurd (both_ways false refl h)
-
-      past_or : (i < length ws) ⊎ (length ws ≤ i) → Kind wide
-      past_or (inl few) = here few (ltb (get_or as' i 0) old) (leb 1 (get_or ws i 0)) refl refl
-      past_or (inr past) =
-          idle (rw (free_past past) refl)
-          (λ x k l. rw (no_weights past, no_ages past) (rw (drop_all (i + 1) ws (omega arith), drop_all (i + 1) as' (omega arith)) at l))
-
-  -- the row with one pan more in front
-  pub row_next :
-      (from : ℕ) {most wide : ℕ} {f : ℕ → ℕ} → none_due_empty old ws as' ≡ true → most < wide →
-      Row old (drop (i + 1) ws) (drop (i + 1) as') (from - free_before old ws as' (i + 1)) most f →
-      Row old (drop i ws) (drop i as') (from - free_before old ws as' i) most (joined f (step_at old ws as' wide i))
-  row_next from {most} {wide} {f} ready less h = record { least = λ x low high. at x low high (kind wide ready) }
-    where
-      at : (x : ℕ) → from - free_before old ws as' i ≤ x → x ≤ most → Kind wide → Least old (drop i ws) (drop i as') x (joined f (step_at old ws as' wide i) x)
-      at x low high (idle e goes) =
-          rw (e, back_far f wide x (omega arith)) (least_cap (goes x (f x) (h.least x (omega (arith, before_next)) high)))
-      at x low high (free few young full e lies) = rw e (rw (drop_weights few, drop_ages few) (within (cases_lt x (get_or ws i 0))))
-        where
-          rest : Least old (drop (i + 1) ws) (drop (i + 1) as') x (f x)
-          rest = h.least x (omega (arith, before_next)) high
-
-          within : (x < get_or ws i 0) ⊎ (get_or ws i 0 ≤ x) → Least old (get_or ws i 0 ∷ drop (i + 1) ws) (get_or as' i 0 ∷ drop (i + 1) as') x (joined f (get_or ws i 0) x)
-          within (inl far) = rw (back_far f (get_or ws i 0) x far) (least_cap (least_barred young (λ g n. omega arith) rest))
-          within (inr near) =
-              rw (back_near f (get_or ws i 0) x near)
-              (least_both young full near rest (h.least (x - get_or ws i 0) (omega (arith, before_next, lies)) (omega arith)))
-
-pub row_same :
-    {old : ℕ} {ws as' : List ℕ} {from most : ℕ} {f g : ℕ → ℕ} → Row old ws as' from most f → ((x : ℕ) → from ≤ x → x ≤ most → g x ≡ f x) → Row old ws as' from most g
-row_same h same = record { least = λ x low high. rw (same x low high) (h.least x low high) }
-
--- the rows so far, and where the newest starts
-pub record Filling (old : ℕ) (ws as' : List ℕ) (from most wide pair row before : ℕ) (bytes : List ℕ) : Type 0 where
-  pub at : row ≡ wide * (pairs_of (length ws) - pair)
-  pub earlier : before ≡ free_before old ws as' (2 * pair)
-  pub rows : Rows old ws as' from most wide pair bytes
-
-pub filling_none :
-    (old : ℕ) (ws as' : List ℕ) (from most wide lies : ℕ) (bytes : List ℕ) → length as' ≡ length ws → most + 64 < wide → lies ≡ free_weight old ws as' →
-    get_or bytes 64 0 ≡ 0 → ((x : ℕ) → x ≢ 64 → x < wide → get_or bytes x 0 ≡ 255) → Filling old ws as' from most wide (pairs_of (length ws)) 0 lies bytes
-filling_none old ws as' from most wide lies bytes paired less is none rest =
-    record {
-      at = let e : pairs_of (length ws) - pairs_of (length ws) ≡ 0 = omega arith in rw e (omega arith);
-      earlier = rw (no_weights old ws as' (2 * pairs_of (length ws)) paired (omega arith)) (omega arith);
-      rows = record {
-        row = row;
-        blank = λ i j low high few.
-            let e : pairs_of (length ws) - i ≡ 0 = omega arith in
-            let z : wide * 0 + j ≡ j = omega arith in
-            let ne : j ≢ 64 = omega arith in
-            rw (e, z) (rest j ne (omega arith));
-      };
-    }
-  where
-    least : (x : ℕ) → x ≤ most → Least old [] [] x (get_or bytes (64 + x) 0)
-    least zero low = rw none least_nothing
-    least (suc x) low = let ne : 64 + suc x ≢ 64 = omega arith in rw (rest (64 + suc x) ne (omega arith)) (least_never (suc x) (omega arith))
-
-    row :
-        (i : ℕ) → pairs_of (length ws) ≤ i → i ≤ pairs_of (length ws) →
-        Row old (drop (2 * i) ws) (drop (2 * i) as') (from - free_before old ws as' (2 * i)) most (row_at bytes (wide * (pairs_of (length ws) - i)))
-    row i low high =
-        let e : pairs_of (length ws) - i ≡ 0 = omega arith in
-        let z : wide * 0 ≡ 0 = omega arith in
-        rw (no_weights old ws as' (2 * i) paired (omega arith), no_ages old ws as' (2 * i) paired (omega arith), e, z) (record { least = λ x _ most. least x most })
-
--- a row more: the older ones stay
-pub filling_next :
-    {old : ℕ} {ws as' : List ℕ} {from most wide pair row before before' : ℕ} {bytes bytes' : List ℕ} → length as' ≡ length ws → none_due_empty old ws as' ≡ true →
-    pair < pairs_of (length ws) → most + 64 < wide → Filling old ws as' from most wide (pair + 1) row before bytes →
-    before ≡ before' + (free_at old ws as' (2 * pair) + free_at old ws as' (2 * pair + 1)) →
-    ((j : ℕ) → j < row + wide → get_or bytes' j 0 ≡ get_or bytes j 0) → ((j : ℕ) → j < 64 → get_or bytes' (row + wide + j) 0 ≡ 255) →
-    ((x : ℕ) → from - before' ≤ x → x ≤ most →
-    row_at bytes' (row + wide) x ≡ joined (joined (row_at bytes row) (step_at old ws as' wide (2 * pair + 1))) (step_at old ws as' wide (2 * pair)) x) →
-    Filling old ws as' from most wide pair (row + wide) before' bytes'
-filling_next {old} {ws} {as'} {from} {most} {wide} {pair} {row} {before} {before'} {bytes} {bytes'} paired ready few less h is same blank made =
-    record { at = place; earlier = earlier; rows = record { row = λ i low high. at i high (cases_lt pair i) low; blank = λ i j low high short. front i j high short (cases_lt pair i) low } }
-  where
-    two : 2 * (pair + 1) ≡ 2 * pair + 1 + 1
-    two = omega arith
-
-    earlier : before' ≡ free_before old ws as' (2 * pair)
-    earlier =
-        let b : before ≡ free_before old ws as' (2 * pair + 1 + 1) = rw two at h.earlier in
-        omega (arith, b, is, before_next old ws as' (2 * pair + 1) paired, before_next old ws as' (2 * pair) paired)
-
-    place : row + wide ≡ wide * (pairs_of (length ws) - pair)
-    place =
-        let n : pairs_of (length ws) - pair ≡ pairs_of (length ws) - (pair + 1) + 1 = omega arith in
-        rw n (omega (arith, h.at, mul-add wide (pairs_of (length ws) - (pair + 1)) 1, mul-one wide))
-
-    older : Row old (drop (2 * pair + 1 + 1) ws) (drop (2 * pair + 1 + 1) as') (from - free_before old ws as' (2 * pair + 1 + 1)) most (row_at bytes row)
-    older =
-        let r = h.rows.row (pair + 1) (omega arith) (omega arith) in
-        rw (sym h.at, two) at r
-
-    newest : Row old (drop (2 * pair) ws) (drop (2 * pair) as') (from - free_before old ws as' (2 * pair)) most (row_at bytes' (row + wide))
-    newest =
-        row_same (row_next old ws as' (2 * pair) paired from ready (omega arith) (row_next old ws as' (2 * pair + 1) paired from ready (omega arith) older))
-        (λ x low high. made x (rw (sym earlier) at low) high)
-
-    at :
-        (i : ℕ) → i ≤ pairs_of (length ws) → (pair < i) ⊎ (i ≤ pair) → pair ≤ i →
-        Row old (drop (2 * i) ws) (drop (2 * i) as') (from - free_before old ws as' (2 * i)) most (row_at bytes' (wide * (pairs_of (length ws) - i)))
-    at i high (inl later) low =
-        let fewer : pairs_of (length ws) - i ≤ pairs_of (length ws) - (pair + 1) = omega arith in
-        row_same (h.rows.row i (omega arith) high) (λ x _ most. same _ (omega (arith, h.at, mul-le-mul_left wide fewer)))
-    at i high (inr here) low = let e : i ≡ pair = omega arith in rw (e, sym place) newest
-
-    front : (i j : ℕ) → i ≤ pairs_of (length ws) → j < 64 → (pair < i) ⊎ (i ≤ pair) → pair ≤ i → get_or bytes' (wide * (pairs_of (length ws) - i) + j) 0 ≡ 255
-    front i j high short (inl later) low =
-        let fewer : pairs_of (length ws) - i ≤ pairs_of (length ws) - (pair + 1) = omega arith in
-        same _ (omega (arith, h.at, mul-le-mul_left wide fewer)) ∙ h.rows.blank i j (omega arith) high short
-    front i j high short (inr here) low = let e : i ≡ pair = omega arith in rw (e, sym place) (blank j short)
-
--- what the next two pans weigh is among what the free pans before weigh
-pub filling_before :
-    {old : ℕ} {ws as' : List ℕ} {from most wide pair row before : ℕ} {bytes : List ℕ} → length as' ≡ length ws → 0 < pair →
-    Filling old ws as' from most wide pair row before bytes → free_at old ws as' (2 * (pair - 1)) + free_at old ws as' (2 * (pair - 1) + 1) ≤ before
-filling_before {old} {ws} {as'} {pair = pair} paired some h =
-    let two : 2 * pair ≡ 2 * (pair - 1) + 1 + 1 = omega arith in
-    let b = rw two at h.earlier in
-    omega (arith, b, before_next old ws as' (2 * (pair - 1) + 1) paired, before_next old ws as' (2 * (pair - 1)) paired)
-
--- the same step as the code takes it
-pub filling_more :
-    {old : ℕ} {ws as' : List ℕ} {from most wide pair row before next low u v a b bound : ℕ} {bytes bytes' : List ℕ} → length as' ≡ length ws →
-    none_due_empty old ws as' ≡ true → 0 < pair → pair ≤ pairs_of (length ws) → most + 64 < wide → most < bound → Filling old ws as' from most wide pair row before bytes →
-    a ≡ free_at old ws as' (2 * (pair - 1)) → b ≡ free_at old ws as' (2 * (pair - 1) + 1) → low ≡ from - (before - (a + b)) →
-    u ≡ step_at old ws as' wide (2 * (pair - 1)) → v ≡ step_at old ws as' wide (2 * (pair - 1) + 1) → next ≡ row + wide →
-    ((j : ℕ) → j < next → get_or bytes' j 0 ≡ get_or bytes j 0) → ((j : ℕ) → j < 64 → get_or bytes' (next + j) 0 ≡ 255) →
-    ((x : ℕ) → low ≤ x → x < bound → row_at bytes' next x ≡ joined (joined (row_at bytes row) v) u x) →
-    Filling old ws as' from most wide (pair - 1) (row + wide) (before - (a + b)) bytes'
-filling_more {old} {ws} {as'} {from} {most} {wide} {pair} {row} {before} {next} {low} {u} {v} {a} {b} {bound} {bytes} {bytes'} paired ready some few less wider h first second start one other place same blank made =
-    filling_next paired ready (omega arith) less here (omega (arith, first, second, filling_before paired some h))
-    (λ j less. same j (omega arith)) (rw place at blank) (λ x enough high. rw (sym place, sym one, sym other) (made x (omega arith) (omega arith)))
-  where
-    here : Filling old ws as' from most wide (pair - 1 + 1) row before bytes
-    here = let e : pair - 1 + 1 ≡ pair = omega arith in rw e h
-
-pub step_le : (old : ℕ) (ws as' : List ℕ) (wide i : ℕ) → get_or ws i 0 ≤ 1000000 → wide ≤ 3000000 → step_at old ws as' wide i ≤ 3000000
-step_le old ws as' wide i light narrow = at (ltb (get_or as' i 0) old)
-  where
-    pick : (b : Bool) (m n : ℕ) → m ≤ 3000000 → n ≤ 3000000 → cond b m n ≤ 3000000
-    pick true m n hm hn = hm
-    pick false m n hm hn = hn
-
-    at : (b : Bool) → cond (leb 1 (cond b (get_or ws i 0) 0)) (cond b (get_or ws i 0) 0) wide ≤ 3000000
-    at true = pick (leb 1 (get_or ws i 0)) (get_or ws i 0) wide (omega arith) narrow
-    at false = narrow
-
-pub filling_blank :
-    {old : ℕ} {ws as' : List ℕ} {from most wide pair row before : ℕ} {bytes : List ℕ} → Filling old ws as' from most wide pair row before bytes →
-    pair ≤ pairs_of (length ws) → (j : ℕ) → j < 64 → get_or bytes (row + j) 0 ≡ 255
-filling_blank {pair = pair} h few j short = rw h.at (h.rows.blank pair j (omega arith) few short)
-
--- there is room for a row more wherever two pans are left
+-- there is room for a row more wherever a pan is left that wants one
 pub filling_room :
-    {old : ℕ} {ws as' : List ℕ} {from most wide pair row before : ℕ} {bytes : List ℕ} → Filling old ws as' from most wide pair row before bytes → 0 < pair →
-    pair ≤ pairs_of (length ws) → row + wide + wide ≤ wide * (pairs_of (length ws) + 1)
-filling_room {ws = ws} {wide = wide} {pair} h some few =
-    let m : pairs_of (length ws) - pair + 1 ≤ pairs_of (length ws) = omega arith in
-    omega (arith, mul-add wide (pairs_of (length ws) - pair) 1, mul-add wide (pairs_of (length ws)) 1, mul-one wide, mul-le-mul_left wide m, h.at)
-
--- where the next row to read starts, and that it lies in the room
-pub row_below : (wide pairs pair row : ℕ) → pair < pairs → row ≡ wide * (pairs - pair) → (wide ≤ row) × (row - wide ≡ wide * (pairs - (pair + 1)))
-row_below wide pairs pair row few is =
-    let n : pairs - pair ≡ pairs - (pair + 1) + 1 = omega arith in
-    let e : row ≡ wide * (pairs - (pair + 1) + 1) = rw n at is in
-    (omega (arith, e, mul-add wide (pairs - (pair + 1)) 1, mul-one wide), omega (arith, e, mul-add wide (pairs - (pair + 1)) 1, mul-one wide))
-
-pub row_inside : (wide pairs k x row long : ℕ) → k ≤ pairs → x + 64 < wide → wide * (pairs + 1) ≤ long → row ≡ wide * k → row + 64 + x < long
-row_inside wide pairs k x row long few less enough is = omega (arith, is, mul-le-mul_left wide few, mul-add wide pairs 1, mul-one wide)
-
--- the row of all pans
-pub rows_all :
-    {old : ℕ} {ws as' : List ℕ} {from most wide : ℕ} {bytes : List ℕ} → Rows old ws as' from most wide 0 bytes →
-    Row old ws as' from most (row_at bytes (wide * pairs_of (length ws)))
-rows_all {old} {ws} {as'} {from} {most} {wide} {bytes} h =
-    let all : pairs_of (length ws) - 0 ≡ pairs_of (length ws) = omega arith in
-    let none : from - free_before old ws as' 0 ≡ from = omega arith in
-    let r : Row old ws as' (from - free_before old ws as' 0) most (row_at bytes (wide * (pairs_of (length ws) - 0))) = h.row 0 (omega arith) (omega arith) in
-    rw (all, none) at r
+    {old : ℕ} {ws as' : List ℕ} {most wide pan top : ℕ} {bytes : List ℕ} → Filling old ws as' most wide pan top bytes → 0 < pan → pan ≤ length ws →
+    length as' ≡ length ws → get_or as' (pan - 1) 0 < old → 0 < get_or ws (pan - 1) 0 → top + wide + wide ≤ wide * (free_pans old ws as' + 1)
+filling_room {old} {ws} {as'} {most} {wide} {pan} {top} h some few paired young full =
+    let i : ℕ = pan - 1 in
+    let here : i + 1 ≡ pan = omega arith in
+    let e = lt-ltb (get_or as' i 0) old young in
+    let f = le-leb 1 (get_or ws i 0) (omega arith) in
+    let n : free_pans old (drop i ws) (drop i as') ≡ 1 + free_pans old (drop (i + 1) ws) (drop (i + 1) as') = rw (e, f) at (free_next old ws as' i (omega arith) paired) in
+    let last : free_pans old (drop i ws) (drop i as') ≡ 1 + free_pans old (drop pan ws) (drop pan as') = rw here at n in
+    let m : free_pans old (drop pan ws) (drop pan as') + 1 ≤ free_pans old ws as' = omega (arith, last, free_drop_le old i ws as') in
+    omega (arith, mul-add wide (free_pans old (drop pan ws) (drop pan as')) 1, mul-add wide (free_pans old ws as') 1, mul-one wide, mul-le-mul_left wide m, h.at)

@@ -1,7 +1,7 @@
--- Lemmas of the crate's own.
-mod Bests
-mod Filling
-mod Joining
+-- The lemmas that several proofs share.
+mod Writing
 mod Making
-mod Reading
 mod Surveying
+mod Filling
+mod Reading
+mod Bests

@@ -1,20 +1,22 @@
 -- One look over the pans for the table, pan by pan: what is seen so far and what is left make up the whole.
 use Rattle.std.proofs.Common.{◌≡◌, ℕ, suc, ◌+◌, ◌-◌, ◌*◌, ◌≤◌, min, Bool, true, false, cond, ◌&&◌, ◌||◌, ltb, leb, List, [], ◌∷◌, length, get_or, sym, refl, ◌∙◌, arith}
 use mathlib.Core.Bool.{and-true}
+use Rattle.choices.specs.Choice.{bit}
 use Rattle.choices.specs.declared.rule.Rule.{Rule}
-use Rattle.table.specs.Pans.{due_weight, due_pans, free_weight, none_due_empty, span_of}
+use Rattle.table.specs.Pans.{due_weight, due_pans, free_weight, free_pans, none_due_empty, span_of}
 use Rattle.table.specs.Surveyed.{Surveyed}
-use Rattle.table.specs.declared.seen.Survey.{Survey}
+use Rattle.table.specs.declared.survey.Survey.{Survey}
 
 -- the pans in ws' and as' are left
 pub record Surveying (old : ℕ) (ws as'' ws' as' : List ℕ) (s : Survey) : Type 0 where
   pub paired : length as' ≡ length ws'
   pub each : (i : ℕ) → get_or ws' i 0 ≤ 1000000
-  pub few : s.held + length ws' ≤ 24
+  pub few : s.held + s.rows + length ws' ≤ 24
   pub light : s.due + s.free + 1000000 * length ws' ≤ 24000000
   pub due : s.due + due_weight old ws' as' ≡ due_weight old ws as''
   pub held : s.held + due_pans old as' ≡ due_pans old as''
   pub free : s.free + free_weight old ws' as' ≡ free_weight old ws as''
+  pub rows : s.rows + free_pans old ws' as' ≡ free_pans old ws as''
   pub ready : (s.ready && none_due_empty old ws' as') ≡ none_due_empty old ws as''
 
 regroup : (s a n : Bool) → ((s && a) && n) ≡ (s && (a && n))
@@ -25,27 +27,29 @@ split : (b : Bool) (w : ℕ) → cond b 0 w + cond b w 0 ≡ w
 split true w = omega arith
 split false w = omega arith
 
-one : (b : Bool) → cond b 0 1 ≤ 1
-one true = omega arith
-one false = omega arith
+one : (b t : Bool) → cond b 0 1 + bit (b && t) ≤ 1
+one true true = omega arith
+one true false = omega arith
+one false t = omega arith
 
 -- one pan more is seen
 pub surveying_next :
     {old : ℕ} {ws as'' : List ℕ} {w a : ℕ} {ws₁ as₁ ws' as' : List ℕ} {s t : Survey} →
     Surveying old ws as'' ws₁ as₁ s → ws₁ ≡ w ∷ ws' → as₁ ≡ a ∷ as' →
     t.due ≡ s.due + cond (ltb a old) 0 w → t.held ≡ s.held + cond (ltb a old) 0 1 →
-    t.free ≡ s.free + cond (ltb a old) w 0 →
+    t.free ≡ s.free + cond (ltb a old) w 0 → t.rows ≡ s.rows + bit (ltb a old && leb 1 w) →
     t.ready ≡ (s.ready && (ltb a old || leb 1 w)) →
     Surveying old ws as'' ws' as' t
-surveying_next {old} {ws} {as''} {w} {a} {ws₁} {as₁} {ws'} {as'} {s} {t} h₁ e f due held free ready =
+surveying_next {old} {ws} {as''} {w} {a} {ws₁} {as₁} {ws'} {as'} {s} {t} h₁ e f due held free rows ready =
     record {
       paired = omega (arith, h.paired);
       each = λ i. h.each (suc i);
-      few = omega (arith, h.few, one (ltb a old));
+      few = omega (arith, h.few, one (ltb a old) (leb 1 w));
       light = omega (arith, h.light, h.each 0, split (ltb a old) w);
       due = omega (arith, h.due);
       held = omega (arith, h.held);
       free = omega (arith, h.free);
+      rows = omega (arith, h.rows);
       ready = rw (ready, regroup) h.ready;
     }
   where
@@ -54,7 +58,7 @@ surveying_next {old} {ws} {as''} {w} {a} {ws₁} {as₁} {ws'} {as'} {s} {t} h�
 
 pub surveying_room :
     {old : ℕ} {ws as'' : List ℕ} {w : ℕ} {ws₁ as₁ ws' : List ℕ} {s : Survey} →
-    Surveying old ws as'' ws₁ as₁ s → ws₁ ≡ w ∷ ws' → (s.due + s.free + w ≤ 24000000) × (s.held + 1 ≤ 24)
+    Surveying old ws as'' ws₁ as₁ s → ws₁ ≡ w ∷ ws' → (s.due + s.free + w ≤ 24000000) × (s.held + s.rows + 1 ≤ 24)
 surveying_room h e = let k = rw e at h in omega (arith, k.each 0, k.light, k.few)
 
 pub surveying_all :
@@ -64,6 +68,7 @@ surveying_all {old} {ws} {as''} {ws'} {as'} {s} h₁ e f =
       due = omega (arith, h.due);
       held = omega (arith, h.held);
       free = omega (arith, h.free);
+      rows = omega (arith, h.rows);
       ready = sym (and-true s.ready) ∙ h.ready;
       light = omega (arith, h.light);
       few = omega (arith, h.few);

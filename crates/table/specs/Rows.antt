@@ -1,32 +1,22 @@
 -- What the rows of a table hold. Assumes nothing: these are definitions.
---   back       what stands a pan's weight further to the front; 255 where nothing stands there
---   joined     the least of what stands there without a pan, and with it and one pan more
+--   Written    nothing before a place has changed, and from there on stand so many given bytes
 --   Makes      a choice of some pans that opens every pan that has to be opened and none that is empty, and weighs so
 --              much more than the pans that have to be opened
 --   Least      the least number of pans, beside those that have to be opened, in such a choice; 255: there is none
---   Row        a row holds it for every weight that matters: from a lowest one up to the span
---   Rows       for each two pans from the first ones on, the row of the pans from there on; it lies behind the rows of fewer
---              pans, and has 64 bytes of 255 in front. What matters is what the free pans before can't make up for
---   row_at     what a row holds for a weight, behind its 64 bytes in front
+--   Row        a row holds it for every weight up to the span
+--   Rows       for each pan from the first one on, the row of the pans from there on; it lies behind the rows of fewer free pans
 --   First      of the choices that weigh so much, the one of the fewest pans that opens the first pan that differs
 --   Read       that choice, by its number
---   Stepped    one pan more is read: it is opened, since the rest then takes fewer pans; or has to be; or stays shut, or is not there
 --   Lightest   the first weight of a window for which a row holds a count within a limit, or that there is none
-use Rattle.std.specs.Prelude.{◌≡◌, ℕ, ◌+◌, ◌-◌, ◌*◌, ◌^◌, ◌<◌, ◌≤◌, min, true, false, cond, List, length, drop, Some, None, Option, nat_le, slice_index, slice_index_or}
+use Rattle.std.specs.Prelude.{◌≡◌, ℕ, ◌+◌, ◌*◌, ◌<◌, ◌≤◌, true, false, List, length, drop, Some, None, Option, slice_index, slice_index_or}
 use Rattle.choices.specs.Choice.{Choice, weight_of, opened, none_empty, keeps_old}
 use Rattle.choices.specs.Numbered.{number_of}
 use Rattle.order.specs.Order.{first_more}
-use Rattle.table.specs.Pans.{due_weight, due_pans, due_at, free_before, pairs_of}
-use Rattle.table.specs.declared.read.Left.{Left}
+use Rattle.table.specs.Pans.{due_weight, due_pans, free_pans}
 
-abbrev pub back : (ℕ → ℕ) → (weight x : ℕ) → ℕ
-back row w x = cond (nat_le w x) (row (x - w)) 255
-
-abbrev pub joined : (ℕ → ℕ) → (weight x : ℕ) → ℕ
-joined row w x = min (row x) (min (back row w x + 1) 255)
-
-abbrev pub row_at : (bytes : List ℕ) (start : ℕ) → ℕ → ℕ
-row_at bytes start x = slice_index bytes (start + 64 + x)
+pub record Written (before after : List ℕ) (start count : ℕ) (value : ℕ → ℕ) : Type 0 where
+  pub same : (j : ℕ) → j < start → slice_index after j ≡ slice_index before j
+  pub made : (x : ℕ) → x < count → slice_index after (start + x) ≡ value x
 
 pub record Makes (old : ℕ) (ws as' : List ℕ) (x : ℕ) (cs : Choice) : Type 0 where
   pub whole : length cs ≡ length ws
@@ -38,13 +28,11 @@ pub record Least (old : ℕ) (ws as' : List ℕ) (x k : ℕ) : Type 0 where
   pub low : (cs : Choice) → Makes old ws as' x cs → due_pans old as' + k ≤ opened cs
   pub some : k < 255 → (cs : Choice) × Makes old ws as' x cs × (opened cs ≡ due_pans old as' + k)
 
-pub record Row (old : ℕ) (ws as' : List ℕ) (from most : ℕ) (row : ℕ → ℕ) : Type 0 where
-  pub least : (x : ℕ) → from ≤ x → x ≤ most → Least old ws as' x (row x)
+pub record Row (old : ℕ) (ws as' : List ℕ) (most start : ℕ) (bytes : List ℕ) : Type 0 where
+  pub least : (x : ℕ) → x ≤ most → Least old ws as' x (slice_index bytes (start + x))
 
-pub record Rows (old : ℕ) (ws as' : List ℕ) (from most wide first : ℕ) (bytes : List ℕ) : Type 0 where
-  pub row : (i : ℕ) → first ≤ i → i ≤ pairs_of (length ws) →
-      Row old (drop (2 * i) ws) (drop (2 * i) as') (from - free_before old ws as' (2 * i)) most (row_at bytes (wide * (pairs_of (length ws) - i)))
-  pub blank : (i j : ℕ) → first ≤ i → i ≤ pairs_of (length ws) → j < 64 → slice_index bytes (wide * (pairs_of (length ws) - i) + j) ≡ 255
+pub record Rows (old : ℕ) (ws as' : List ℕ) (most wide first : ℕ) (bytes : List ℕ) : Type 0 where
+  pub row : (i : ℕ) → first ≤ i → i ≤ length ws → Row old (drop i ws) (drop i as') most (wide * free_pans old (drop i ws) (drop i as')) bytes
 
 pub record First (old : ℕ) (ws as' : List ℕ) (x : ℕ) (cs : Choice) : Type 0 where
   pub makes : Makes old ws as' x cs
@@ -55,11 +43,6 @@ pub record Read (old : ℕ) (ws as' : List ℕ) (x number : ℕ) : Type 0 where
   pub choice : Choice
   pub first : First old ws as' x choice
   pub is : number ≡ number_of choice
-
-pub data Stepped (old : ℕ) (ws as' : List ℕ) (pan weight with : ℕ) (l : Left) : Left → Type 0 where
-  opens : {r : Left} → with < l.count → r.left ≡ l.left - weight → r.count ≡ with → r.pans ≡ l.pans + 2 ^ pan → Stepped old ws as' pan weight with l r
-  due : {r : Left} → l.count ≤ with → due_at old ws as' pan ≡ true → r.left ≡ l.left → r.count ≡ l.count → r.pans ≡ l.pans + 2 ^ pan → Stepped old ws as' pan weight with l r
-  stays : {r : Left} → l.count ≤ with → due_at old ws as' pan ≡ false → r ≡ l → Stepped old ws as' pan weight with l r
 
 pub record LightestAt (bytes : List ℕ) (start from most limit x : ℕ) : Type 0 where
   pub enough : from ≤ x

@@ -1,12 +1,11 @@
 // The table by weight: the best bag of a ring, read off rows of least counts in a lent room.
+#![tactic(auto)]
+
 mod answer;
-mod blocks;
 mod look;
-mod pans;
 mod read;
 mod rows;
-mod seen;
+mod survey;
 
 pub use answer::best;
-pub use look::{room_for, survey};
-pub use seen::Survey;
+pub use look::room_for;

@@ -3,8 +3,8 @@ ghost use Rattle.table.specs.Pans.{table_bytes};
 ghost use Rattle.table.specs.Surveyed.{Surveyed};
 ghost use Rattle.std.specs.Prelude.{◌≡◌};
 
-use crate::rows::row_bytes;
-use crate::seen::Survey;
+use crate::rows::BLOCK;
+use crate::survey::Survey;
 use choices::Ring;
 
 // Weights and ages gone through side by side.
@@ -18,10 +18,10 @@ pub fn survey(ring: Ring) -> Survey
     seen
 }
 
-// The bytes that the table of a surveyed ring takes.
-pub fn room_for(ring: Ring, seen: Survey) -> usize
-    requires { Surveyed ring.rule.age ring.weights.now ring.ages.now seen }
+// The bytes that a ring's table takes.
+pub fn room_for(ring: Ring) -> usize
     ensures { result ≡ table_bytes ring.entry.rule ring.entry.weights.now ring.entry.ages.now }
 {
-    row_bytes(seen.span(ring.rule)) * ((ring.weights.len() + 1) / 2 + 1)
+    let seen = survey(ring);
+    (seen.span(ring.rule) + BLOCK) * (seen.rows + 1)
 }

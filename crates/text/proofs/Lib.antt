@@ -1,4 +1,12 @@
 -- Lemmas that several proofs share.
 mod Counts
+mod Cuts
+mod Digits
+mod Found
 mod Lines
+mod Listing
+mod Numerals
+mod Opened
 mod Passing
+mod Printing
+mod Spacing

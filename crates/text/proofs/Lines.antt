@@ -5,16 +5,16 @@ use Rattle.std.proofs.lemmas.List.{get_or-take, length-take-le, drop_more, drop_
 use Rattle.std.proofs.lemmas.Bool.{cases_lt}
 use Rattle.std.specs.List.{AllByRecursion as All}
 use Rattle.text.specs.declared.commands.Command.{Command}
-use Rattle.numerals.specs.declared.fault.Fault.{Fault}
-use Rattle.numerals.specs.declared.fault.Fault.TheVariants.{Unreadable, NoMemory}
-use Rattle.wording.specs.declared.words.Word.{Word}
-use Rattle.wording.specs.declared.words.Word.TheVariants.{Rule, Pans, Ages, Handfuls, Bag, Fall, Bags}
+use Rattle.text.specs.declared.commands.Fault.{Fault}
+use Rattle.text.specs.declared.commands.Fault.TheVariants.{Unreadable, NoMemory}
+use Rattle.text.specs.declared.words.Word.{Word}
+use Rattle.text.specs.declared.words.Word.TheVariants.{Rule, Pans, Ages, Handfuls, Bag, Fall, Bags}
 use Rattle.text.specs.Commands.{word_of, numbers_of}
 use Rattle.text.specs.Reading.{Takes, Passed, Says, Unwritten, Filled, Reads}
-use Rattle.numerals.specs.Scanning.{capped}
-use Rattle.wording.specs.Written.{spelling, spaced, written}
-use Rattle.wording.proofs.Cuts.{Outside, same_cut, cut_at}
-use Rattle.numerals.proofs.Found.{outside_spaced, same_spaced}
+use Rattle.text.specs.Scanning.{capped}
+use Rattle.text.specs.Written.{spelling, spaced, written}
+use Rattle.text.proofs.Cuts.{Outside, same_cut, cut_at}
+use Rattle.text.proofs.Found.{outside_spaced, same_spaced}
 
 abbrev Dark : ℕ → Type 0
 Dark b = b ≡ 32 → ⊥

@@ -2,8 +2,8 @@
 use Rattle.std.specs.Prelude.{ℕ, List, [], ◌∷◌, vec_items}
 use Rattle.text.specs.declared.commands.Command.{Command}
 use Rattle.text.specs.declared.commands.Command.TheVariants as command
-use Rattle.wording.specs.declared.words.Word.{Word}
-use Rattle.wording.specs.declared.words.Word.TheVariants as word
+use Rattle.text.specs.declared.words.Word.{Word}
+use Rattle.text.specs.declared.words.Word.TheVariants as word
 
 abbrev pub word_of : Command → Word
 word_of (command.Rule v) = word.Rule

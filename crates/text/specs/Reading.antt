@@ -1,15 +1,15 @@
 -- What reading a line answers.
 use Rattle.std.specs.Prelude.{◌≡◌, ℕ, ◌⊎◌, List, [], ◌∷◌, ◌++◌, map, length, Ok, Err, Result, ◌≢◌}
 use Rattle.text.specs.declared.commands.Command.{Command}
-use Rattle.numerals.specs.declared.fault.Fault.{Fault}
-use Rattle.numerals.specs.declared.fault.Fault.TheVariants.{Unreadable, NoMemory}
+use Rattle.text.specs.declared.commands.Fault.{Fault}
+use Rattle.text.specs.declared.commands.Fault.TheVariants.{Unreadable, NoMemory}
 use Rattle.text.specs.declared.commands.Line.{Line}
 use Rattle.text.specs.declared.commands.Line.TheVariants as line
-use Rattle.wording.specs.declared.words.Word.{Word}
-use Rattle.wording.specs.declared.words.Word.TheVariants.{Rule, Pans, Ages, Handfuls, Bag, Fall, Bags}
+use Rattle.text.specs.declared.words.Word.{Word}
+use Rattle.text.specs.declared.words.Word.TheVariants.{Rule, Pans, Ages, Handfuls, Bag, Fall, Bags}
 use Rattle.text.specs.Commands.{word_of, numbers_of}
-use Rattle.numerals.specs.Scanning.{capped}
-use Rattle.wording.specs.Written.{spelling, spaced, written}
+use Rattle.text.specs.Scanning.{capped}
+use Rattle.text.specs.Written.{spelling, spaced, written}
 
 -- how many numbers each word takes
 abbrev pub Takes : Word → ℕ → Type 0

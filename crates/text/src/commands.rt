@@ -1,10 +1,11 @@
 // A command, and how it is written.
 ghost use Rattle.std.specs.Prelude.{Some};
-ghost use Rattle.wording.specs.Written.{written};
+ghost use Rattle.text.specs.Written.{written};
 ghost use Rattle.text.specs.Commands.{word_of, numbers_of};
 
+use crate::numbers::put_line;
+use crate::words::Word;
 use std::fmt;
-use wording::{Word, put_line};
 
 #[derive(Drop)]
 pub enum Command {
@@ -22,6 +23,13 @@ pub enum Command {
 pub enum Line {
     Blank,
     Command(Command),
+}
+
+// Why no line was read.
+#[derive(Clone, Copy, Debug)]
+pub enum Fault {
+    Unreadable,
+    NoMemory,
 }
 
 impl fmt::Display for Command {

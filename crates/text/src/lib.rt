@@ -1,6 +1,115 @@
-// The commands that the program reads, and how they are written.
-mod commands;
-mod reading;
+// The lines of text that the program reads, and those that it prints.
+#![tactic(auto)]
 
-pub use commands::{Command, Line};
+mod commands;
+mod numbers;
+mod reading;
+mod replies;
+mod scanning;
+mod words;
+
+pub use commands::{Command, Fault, Line};
 pub use reading::{read, reread};
+pub use replies::Reply;
+pub use words::Word;
+
+#[cfg(test)]
+mod tests {
+    use crate::commands::{Fault, Line};
+    use crate::reading::read;
+    use crate::replies::Reply;
+    use std::alloc::Global;
+    use std::process::Abort;
+    use std::test::Fail;
+
+    // What a line says, written again; a blank line gives nothing.
+    fn again(heap: Global, line: &str) -> Result<String, Fault> {
+        match read(heap, line.as_bytes())? {
+            Line::Blank => Ok(String::new(heap)),
+            Line::Command(command) => match command.to_string(heap) {
+                Ok(text) => Ok(text),
+                Err(_) => Err(Fault::NoMemory),
+            },
+        }
+    }
+
+    #[test]
+    fn commands(rt: HostRuntime) -> Result<(), Fail> {
+        let lines = [
+            "rule 100 10 4 9",
+            "pans 23 0 40",
+            "ages",
+            "handfuls 7",
+            "bag",
+            "fall 3 25",
+            "bags 1000",
+        ];
+        for line in lines {
+            assert!(rt; again(rt.alloc(), line)?.as_str() == line);
+        }
+        assert!(rt;
+            again(rt.alloc(), "bags 12345678901234567890123")?.as_str() == "bags 4294967295"
+        );
+        assert!(rt; again(rt.alloc(), "")?.is_empty());
+        assert!(rt; again(rt.alloc(), "# 007")?.is_empty());
+        Ok(())
+    }
+
+    #[test]
+    fn unreadable(rt: HostRuntime) {
+        let lines = [
+            "bag 007", "bags 007", "bags +5", "rule -1", "pans  1", "pans 1 ", "ages\t1", "bag\r",
+            "fall 1", "bags 1 2", "rulé", "Bag", " bag",
+        ];
+        for line in lines {
+            assert!(rt;
+                matches!(read(rt.alloc(), line.as_bytes()), Err(Fault::Unreadable)),
+                "{}",
+                line
+            );
+        }
+        assert!(rt;
+            matches!(
+                read(rt.alloc(), &[98, 97, 103, 255]),
+                Err(Fault::Unreadable)
+            )
+        );
+    }
+
+    fn printed(rt: &impl Abort, heap: Global, reply: Reply, text: &str) -> Result<(), Fail> {
+        assert!(rt; reply.to_string(heap)?.as_str() == text, "{}", text);
+        Ok(())
+    }
+
+    #[test]
+    fn replies(rt: HostRuntime) -> Result<(), Fail> {
+        let heap = rt.alloc();
+        printed(
+            &rt,
+            heap,
+            Reply::Open {
+                pans: 204,
+                weight: 100,
+            },
+            "open 2 3 6 7: 100",
+        )?;
+        printed(&rt, heap, Reply::None, "none")?;
+        printed(
+            &rt,
+            heap,
+            Reply::Refused {
+                number: 3,
+                place: 5,
+            },
+            "refused 3 at 5",
+        )?;
+        let (bags, weight, given_away) = (7, 702, 2);
+        let season = Reply::Season {
+            bags,
+            weight,
+            given_away,
+            ended_early: true,
+        };
+        printed(&rt, heap, season, "bags 7: 702, 2 given away, then none")
+    }
+}

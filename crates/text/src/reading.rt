@@ -1,13 +1,13 @@
 // A line of bytes as the command that it says.
 ghost use Rattle.std.specs.Prelude.{◌≡◌, ℕ, ◌<◌, ◌≤◌, map, length, MatchBool, ◌≢◌, slice_index};
 ghost use Rattle.text.specs.Commands.{numbers_of};
-ghost use Rattle.numerals.specs.Scanning.{capped};
+ghost use Rattle.text.specs.Scanning.{capped};
 ghost use Rattle.text.specs.Reading.{Passed, Filled, Reads, Rereads};
 
-use crate::commands::{Command, Line};
-use numerals::{Fault, numbers, one, two};
+use crate::commands::{Command, Fault, Line};
+use crate::scanning::{numbers, one, two};
+use crate::words::Word;
 use std::alloc::Global;
-use wording::Word;
 
 // Whether a line is empty or a comment.
 fn passed_over(line: &[u8]) -> bool

@@ -1,5 +1,5 @@
 // What the entries and the engines answer to a case.
-ghost use Rattle.refusals.specs.Refusals.{Ready};
+ghost use Rattle.packing.specs.Refusals.{Ready};
 ghost use Rattle.trials.specs.Counted.{one_more};
 ghost use Rattle.std.specs.Prelude.{◌≡◌};
 
@@ -9,8 +9,7 @@ use crate::plain::all_tried;
 use crate::scores::Scores;
 use choices::{Ring, Rule};
 use order::Bag;
-use packing::{Done, bag, bag_in};
-use refusals::{rule_in, turned_away};
+use packing::{Done, bag, bag_in, rule_in, turned_away};
 
 #[derive(Clone, Copy)]
 enum Engine {
@@ -96,11 +95,10 @@ fn decide<'a>(
             engine_answer(halves::best(ring, entries))
         }
         Engine::Table => {
-            let seen = table::survey(ring);
-            if table::room_for(ring, seen) > bytes.len() {
+            if table::room_for(ring) > bytes.len() {
                 return Answer::NoRoom;
             }
-            engine_answer(table::best(ring, seen, bytes))
+            engine_answer(table::best(ring, bytes))
         }
     }
 }

@@ -1,4 +1,6 @@
 // The trials: random rings through the entries and the engines, beside all choices tried in the plainest way.
+#![tactic(auto)]
+
 mod asked;
 mod case;
 mod outcome;

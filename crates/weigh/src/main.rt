@@ -1,4 +1,6 @@
 // The program: reads commands from standard input, a line each, and prints what the desk answers.
+#![tactic(auto)]
+
 use anyhow::anyhow;
 use desk::{empty_desk, hear};
 use std::io::{BufRead, BufReader, BufWriter, Write};

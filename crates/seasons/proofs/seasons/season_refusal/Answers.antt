@@ -1,7 +1,7 @@
 -- What is left of the proof of a season's first refusal: there is none.
 use Rattle.std.proofs.Common.{◌*◌, length, sym}
 use Rattle.std.proofs.lemmas.Bool.{le-leb}
-use Rattle.refusals.proofs.Refused.{none_above}
+use Rattle.packing.proofs.Refused.{none_above}
 use Rattle.seasons.proofs.seasons.season_refusal.Goals as goal
 
 pub returns-else-bags-gt1000000 : goal.returns-else-bags-gt1000000

@@ -5,11 +5,11 @@ use Rattle.table.proofs.answer.best.Goals as goal
 
 pub look-up-requires : goal.look-up-requires
 look-up-requires c =
-    let h = c.requires.seen in
-    record { seen = h; leaves = leaves_from h (sym c.leaves-a-bag.ensures ∙ c.if-not-leaves-a-bag.false); laid = laid h c.args.ring.target c.args.ring.above c.span.ensures c.requires.room }
+    let h = c.survey-seen.ensures in
+    record { seen = h; leaves = leaves_from h (sym c.leaves-a-bag.ensures ∙ c.if-not-leaves-a-bag.false); laid = laid h c.args.ring.target c.args.ring.above c.span.ensures c.requires }
 
 pub returns-then-not-leaves-a-bag : goal.returns-then-not-leaves-a-bag
 returns-then-not-leaves-a-bag c =
-    let h = c.requires.seen in
+    let h = c.survey-seen.ensures in
     none_left c.args.ring.rule c.args.ring.weights.now c.args.ring.ages.now c.args.ring.paired
     (rw (h.ready, h.held, h.due) at (sym c.leaves-a-bag.ensures ∙ c.if-not-leaves-a-bag.true))

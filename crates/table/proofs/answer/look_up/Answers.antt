@@ -1,37 +1,29 @@
 -- What is left of the proof that the best bag is looked up.
-use Rattle.std.proofs.Common.{refl, arith}
-use Rattle.table.proofs.Bests.{window, rows_from, none_found, best_found}
+use Rattle.std.proofs.Common.{arith}
+use Rattle.table.proofs.Bests.{window, none_found, best_found}
 use Rattle.table.proofs.answer.look_up.Goals as goal
 
 pub fill-requires : goal.fill-requires
-fill-requires c = record { ready = c.requires.leaves.filled; free = c.requires.seen.free; small = c.requires.laid.small; enough = c.requires.laid.enough }
+fill-requires c = record { ready = c.requires.leaves.filled; small = c.requires.laid.small; enough = c.requires.laid.enough }
 
 pub lightest-requires : goal.lightest-requires
-lightest-requires c = rw c.row_bytes.ensures (omega (arith, c.requires.laid.last))
+lightest-requires c = omega (arith, c.requires.laid.last)
 
 pub read-requires : goal.read-requires
 read-requires c =
     let t = c.requires.laid in
     let x = c.in-Some.ensures in
-    record {
-      ready = c.requires.leaves.filled;
-      rows = rows_from c.fill.ensures x.enough;
-      small = t.small;
-      enough = omega (arith, t.enough);
-      top = rw c.row_bytes.ensures refl;
-      within = x.within;
-      some = omega (arith, x.few, c.min-limit.ensures);
-    }
+    record { ready = c.requires.leaves.filled; rows = c.fill.ensures; enough = omega (arith, t.enough); top = t.top; within = x.within; some = omega (arith, x.few) }
 
 pub returns-in-None : goal.returns-in-None
 returns-in-None c =
     none_found
     (window c.requires.seen c.requires.leaves c.requires.laid c.args.ring.paired c.args.ring.few c.fill.ensures c.saturating-sub-from.ensures c.min-limit.ensures)
-    (rw c.row_bytes.ensures at c.in-None.ensures)
+    c.in-None.ensures
 
 pub returns-in-Some : goal.returns-in-Some
 returns-in-Some c =
     rw c.requires.seen.due
     (best_found
     (window c.requires.seen c.requires.leaves c.requires.laid c.args.ring.paired c.args.ring.few c.fill.ensures c.saturating-sub-from.ensures c.min-limit.ensures)
-    (rw c.row_bytes.ensures at c.in-Some.ensures) c.read.ensures)
+    c.in-Some.ensures c.read.ensures)

@@ -1,48 +1,36 @@
 -- What is left of the proof that all rows are filled.
-use Rattle.std.proofs.Common.{◌≡◌, ◌+◌, ◌-◌, ◌*◌, ◌/◌, length, sym, mul-one, mul-add, arith}
-use Rattle.table.specs.Pans.{pairs_of, row_bytes}
-use Rattle.table.proofs.Joining.{row_wide, row_blocks}
-use Rattle.table.proofs.Filling.{filling_none, filling_more, filling_before, filling_room, filling_blank, step_le}
+use Rattle.std.proofs.Common.{◌≡◌, ◌+◌, ◌-◌, get_or, arith}
+use Rattle.std.proofs.lemmas.Bool.{lt-ltb, le-leb}
+use Rattle.table.proofs.Filling.{filling_none, filling_skip, filling_add, filling_room, rowless}
 use Rattle.table.proofs.rows.fill.Goals as goal
 
-pub start-row-requires : goal.start-row-requires
-start-row-requires c =
-    let n = pairs_of (length c.args.ring.weights.now) in
-    let wide = row_bytes c.args.span in
-    omega (arith, c.row-bytes-wide.ensures, row_wide c.args.span, c.requires.enough, mul-add wide n 1, mul-one wide)
+pub loop-pan-init : goal.loop-pan-init
+loop-pan-init c = filling_none _ _ _ _ _ _ c.args.ring.paired c.start-row.ensures.none c.start-row.ensures.rest
 
-pub loop-pair-init : goal.loop-pair-init
-loop-pair-init c =
-    filling_none _ _ _ _ _ _ _ _ c.args.ring.paired (omega (arith, c.row-bytes-wide.ensures, row_wide c.args.span)) c.requires.free
-    c.start-row.ensures.none c.start-row.ensures.rest
+pub loop-pan-preserved : goal.loop-pan-preserved
+loop-pan-preserved c =
+    let e : c.loop-pan.pan - 1 + 1 ≡ c.loop-pan.pan = omega arith in
+    let kind = rowless _ _ _ (c.loop-pan.pan - 1) (omega arith) c.args.ring.paired c.requires.ready c.else-ring-pan.either in
+    filling_skip _ _ _ (c.loop-pan.pan - 1) (omega arith) c.args.ring.paired (omega arith) kind (rw e c.loop-pan.invariant)
 
-pub overflow-sub-before : goal.overflow-sub-before
-overflow-sub-before c =
-    omega (arith, c.free-at-first.ensures, c.free-at-second.ensures, filling_before c.args.ring.paired c.loop-pair-test.true c.loop-pair.invariant)
+pub add-pan-requires : goal.add-pan-requires
+add-pan-requires c =
+    let more = filling_room c.loop-pan.invariant c.loop-pan-test.true c.loop-pan.auto.pan c.args.ring.paired c.if-ring-pan.true c.if-weight-gt0.true in
+    omega (arith, more, c.requires.enough)
 
-pub add-pair-requires : goal.add-pair-requires
-add-pair-requires c =
-    let more = filling_room c.loop-pair.invariant c.loop-pair-test.true c.loop-pair.auto.pair in
-    let wide : c.row-bytes-wide.result ≡ 64 * (c.args.span / 64 + 1 + 1) = omega (arith, c.row-bytes-wide.ensures, row_blocks c.args.span) in
-    let enough = rw (sym c.row-bytes-wide.ensures) at c.requires.enough in
-    let first = step_le c.args.ring.rule.age c.args.ring.weights.now c.args.ring.ages.now c.row-bytes-wide.result (2 * (c.loop-pair.pair - 1)) (c.args.ring.light _) (omega (arith, wide)) in
-    let second = step_le c.args.ring.rule.age c.args.ring.weights.now c.args.ring.ages.now c.row-bytes-wide.result (2 * (c.loop-pair.pair - 1) + 1) (c.args.ring.light _) (omega (arith, wide)) in
-    record {
-      room = omega (arith, more, wide, enough);
-      small = omega (arith, rw c.free-at-first.ensures at c.step-of.ensures, rw c.free-at-second.ensures at c.step-of-in-loop-pair.ensures, first, second);
-      blank = filling_blank c.loop-pair.invariant c.loop-pair.auto.pair;
-    }
+pub overflow-add-top : goal.overflow-add-top
+overflow-add-top c =
+    let more = filling_room c.loop-pan.invariant c.loop-pan-test.true c.loop-pan.auto.pan c.args.ring.paired c.if-ring-pan.true c.if-weight-gt0.true in
+    omega (arith, more, c.requires.enough)
 
-pub overflow-add-row : goal.overflow-add-row
-overflow-add-row c =
-    let more = filling_room c.loop-pair.invariant c.loop-pair-test.true c.loop-pair.auto.pair in
-    let enough = rw (sym c.row-bytes-wide.ensures) at c.requires.enough in
-    omega (arith, more, enough)
+pub loop-pan-preserved-then-weight-gt0 : goal.loop-pan-preserved-then-weight-gt0
+loop-pan-preserved-then-weight-gt0 c =
+    let e : c.loop-pan.pan - 1 + 1 ≡ c.loop-pan.pan = omega arith in
+    let young = lt-ltb _ _ c.if-ring-pan.true in
+    let some = le-leb 1 (get_or c.args.ring.weights.now (c.loop-pan.pan - 1) 0) (omega arith) in
+    let h = c.add-pan.ensures in
+    filling_add _ _ _ (c.loop-pan.pan - 1) (omega arith) c.args.ring.paired (omega arith) young some (rw e c.loop-pan.invariant)
+    h.same (λ x low less. h.without x (omega arith) less) (λ x low heavy. h.with x (omega arith) heavy)
 
-pub loop-pair-preserved : goal.loop-pair-preserved
-loop-pair-preserved c =
-    let wide : c.row-bytes-wide.result ≡ 64 * (c.args.span / 64 + 1 + 1) = omega (arith, c.row-bytes-wide.ensures, row_blocks c.args.span) in
-    let h = c.add-pair.ensures in
-    filling_more c.args.ring.paired c.requires.ready c.loop-pair-test.true c.loop-pair.auto.pair (omega (arith, c.row-bytes-wide.ensures, row_wide c.args.span))
-    (omega arith) c.loop-pair.invariant c.free-at-first.ensures c.free-at-second.ensures c.saturating-sub-low.ensures (rw c.free-at-first.ensures at c.step-of.ensures) (rw c.free-at-second.ensures at c.step-of-in-loop-pair.ensures)
-    (omega (arith, wide)) h.same h.blank h.made
+pub returns : goal.returns
+returns c = let e : c.loop-pan.pan ≡ 0 = omega arith in rw e at c.loop-pan.invariant.rows

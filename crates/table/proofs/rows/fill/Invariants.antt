@@ -1,6 +1,6 @@
--- What the loop over the pans, by twos from the last to the first, keeps.
+-- What the loop over the pans, from the last to the first, keeps.
 use Rattle.table.proofs.Filling.{Filling}
 use Rattle.table.proofs.rows.fill.Given as goal
 
-abbrev pub invariant-loop-pair : goal.invariant-loop-pair
-invariant-loop-pair l = Filling l.ring.rule.age l.ring.weights.now l.ring.ages.now l.from l.span l.wide l.pair l.row l.before l.room
+abbrev pub invariant-loop-pan : goal.invariant-loop-pan
+invariant-loop-pan l = Filling l.ring.rule.age l.ring.weights.now l.ring.ages.now l.span l.wide l.pan l.top l.room

@@ -12,6 +12,6 @@ loop-x-preserved c =
 pub returns : goal.returns
 returns c =
     record {
-      none = get_or-set_same c.loop-x.room 64 0 0 (omega arith);
-      rest = λ x ne h. get_or-set_other c.loop-x.room 64 x 0 0 ne ∙ c.loop-x.invariant x (omega arith);
+      none = get_or-set_same c.loop-x.room 0 0 0 (omega arith);
+      rest = λ x low h. let ne : x ≢ 0 = omega arith in get_or-set_other c.loop-x.room 0 x 0 0 ne ∙ c.loop-x.invariant x (omega arith);
     }

@@ -2,7 +2,7 @@
 use Rattle.std.proofs.Common.{◌≡◌, [], length, sym, refl, ap, ◌∙◌, subst, true-eqb, false-eqb}
 use Rattle.std.proofs.lemmas.List.{nil_from_length}
 use Rattle.text.specs.Reading.{Takes}
-use Rattle.wording.specs.Written.{spaced}
+use Rattle.text.specs.Written.{spaced}
 use Rattle.text.proofs.Counts.{by_one, by_two}
 use Rattle.text.proofs.reading.command.Goals as goal
 

@@ -1,6 +1,6 @@
 -- Each element fits 32 bits.
 use Rattle.std.proofs.Common.{◌≡◌, ℕ, suc, ◌^◌, ◌<◌, List, [], ◌∷◌, map, get_or, refl, arith}
-use Rattle.numerals.specs.Scanning.{capped}
+use Rattle.text.specs.Scanning.{capped}
 use Rattle.text.proofs.reading.held_whole.Goals as goal
 
 whole : (ns : List ℕ) → ((i : ℕ) → get_or ns i 0 < 2 ^ 32) → map capped ns ≡ ns

@@ -1,0 +1,7 @@
+-- What is left of the proof of the test of an entry.
+use Rattle.std.proofs.Common.{arith}
+use Rattle.halves.proofs.Sieving.{most_small}
+use Rattle.halves.proofs.sieve.worth.Goals as goal
+
+pub overflow-add-result : goal.overflow-add-result
+overflow-add-result c = omega (arith, most_small c.args.bounds, c.weight-in.ensures)

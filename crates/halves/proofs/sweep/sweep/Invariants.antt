@@ -1,0 +1,11 @@
+-- What the sweep keeps from turn to turn.
+use Rattle.std.proofs.Common.{◌+◌, ◌-◌, length}
+use Rattle.halves.specs.Sweep.{Meets}
+use Rattle.halves.proofs.Sweeping.{Sweeping}
+use Rattle.halves.proofs.sweep.sweep.Given as goal
+
+abbrev pub invariant-loop-i : goal.invariant-loop-i
+invariant-loop-i l = Sweeping (Meets l.band) l.front l.back l.from l.to l.i l.j l.found
+
+abbrev pub decreases-loop-i : goal.decreases-loop-i
+decreases-loop-i l = (length l.back - l.i) + l.j

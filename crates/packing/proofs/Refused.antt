@@ -1,0 +1,117 @@
+-- Where nothing is turned away everything is in order, and the first number above a limit in two lists.
+use Rattle.std.proofs.Common.{◌≡◌, ℕ, zero, suc, ◌+◌, ◌<◌, ◌≤◌, min, Bool, true, false, cond, ◌&&◌, eqb, leb, List, [], ◌∷◌, ◌++◌, length, get_or, Some, None, Option, sym, refl, ap, ◌∙◌, arith}
+use Rattle.std.specs.Option.{option_map}
+use Rattle.std.proofs.lemmas.Bool.{leb-true, eqb-true, eq-eqb, and_parts, lt-leb, le-leb}
+use Rattle.packing.specs.Laws.{RefusalsAreExact}
+use Rattle.packing.specs.declared.refusal.Refusal.TheVariants.{Rule as RuleRefused, Pans, Number}
+use Rattle.packing.specs.Refusals.{Accepted, Ready, rule_in, or_else, first_above, rule_fault, pans_fault, first_refusal}
+
+pub first_above_append : (m i : ℕ) (xs ys : List ℕ) → first_above m i (xs ++ ys) ≡ or_else (first_above m i xs) (first_above m (i + length xs) ys)
+first_above_append m i [] ys = ap (λ (k : ℕ). first_above m k ys) {y = i + 0} (omega arith)
+first_above_append m i (x ∷ xs) ys = at (leb x m) (first_above_append m (i + 1) xs ys)
+  where
+    at : (b : Bool) → first_above m (i + 1) (xs ++ ys) ≡ or_else (first_above m (i + 1) xs) (first_above m (i + 1 + length xs) ys) →
+        cond b (first_above m (i + 1) (xs ++ ys)) (Some i) ≡ or_else (cond b (first_above m (i + 1) xs) (Some i)) (first_above m (i + suc (length xs)) ys)
+    at true h = h ∙ ap (λ (k : ℕ). or_else (first_above m (i + 1) xs) (first_above m k ys)) {y = i + suc (length xs)} (omega arith)
+    at false h = refl
+
+-- the first number is above the limit, or it is not and the rest decides
+pub first_above_here : (m i x : ℕ) (xs : List ℕ) → m < x → first_above m i (x ∷ xs) ≡ Some i
+first_above_here m i x xs h = rw (lt-leb x m h)
+
+pub first_above_later : (m i x : ℕ) (xs : List ℕ) → x ≤ m → first_above m i (x ∷ xs) ≡ first_above m (i + 1) xs
+first_above_later m i x xs h = rw (le-leb x m h)
+
+some_none : {X : Type 0} {x : X} → Some x ≡ None → ⊥
+some_none e = let z : ◌≡◌ {A = ℕ} 0 1 = cc in omega arith
+
+-- no number is above the limit
+pub none_above : (m i : ℕ) (xs : List ℕ) → first_above m i xs ≡ None → (k : ℕ) → get_or xs k 0 ≤ m
+none_above m i [] h k = omega arith
+none_above m i (x ∷ xs) h k = at (leb x m) refl h (none_above m (i + 1) xs) k
+  where
+    at : (b : Bool) → leb x m ≡ b → cond b (first_above m (i + 1) xs) (Some i) ≡ None →
+        (first_above m (i + 1) xs ≡ None → (k : ℕ) → get_or xs k 0 ≤ m) → (k : ℕ) → get_or (x ∷ xs) k 0 ≤ m
+    at true e h rest zero = leb-true x m e
+    at true e h rest (suc k) = rest h k
+    at false e h rest k = absurd (some_none h)
+
+or_parts : {X : Type 0} (o q : Option X) → or_else o q ≡ None → (o ≡ None) × (q ≡ None)
+or_parts None q h = (refl, h)
+or_parts (Some x) q h = absurd (some_none h)
+
+cond_none : {X : Type 0} (b : Bool) (o : Option X) (x : X) → cond b o (Some x) ≡ None → (b ≡ true) × (o ≡ None)
+cond_none true o x h = (refl, h)
+cond_none false o x h = absurd (some_none h)
+
+-- the three checks passed
+pub accepted :
+    (rs ws as' : List ℕ) → rule_fault rs ≡ None → pans_fault (length ws) (length as') ≡ None → first_above 1000000 0 (ws ++ as') ≡ None →
+    Accepted rs ws as'
+accepted rs ws as' r p n =
+    let four = cond_none (eqb (length rs) 4) _ _ r in
+    let rule = or_parts (first_above 1000000 0 rs) _ four.1 in
+    let pans = cond_none (leb 1 (length ws) && leb (length ws) 24) _ _ p in
+    let bounds = and_parts (leb 1 (length ws)) (leb (length ws) 24) pans.0 in
+    let numbers = or_parts (first_above 1000000 0 ws) _ (sym (first_above_append 1000000 0 ws as') ∙ n) in
+    record {
+      four = eqb-true _ _ four.0;
+      some = leb-true _ _ (target (leb 1 (get_or rs 0 0)) rule.1);
+      small = none_above 1000000 0 rs rule.0;
+      present = leb-true _ _ bounds.0;
+      few = leb-true _ _ bounds.1;
+      paired = eqb-true _ _ (cond_none (eqb (length as') (length ws)) None _ pans.1).0;
+      light = none_above 1000000 0 ws numbers.0;
+      young = none_above 1000000 (0 + length ws) as' numbers.1;
+    }
+  where
+    target : (b : Bool) → cond {A = Option ℕ} b None (Some 0) ≡ None → b ≡ true
+    target true h = refl
+    target false h = absurd (some_none {x = 0} h)
+
+mapped_none : {X Y : Type 0} (f : X → Y) (o : Option X) → option_map f o ≡ None → o ≡ None
+mapped_none f None h = refl
+mapped_none f (Some x) h = absurd (some_none h)
+
+none_below : (m i : ℕ) (xs : List ℕ) → ((k : ℕ) → get_or xs k 0 ≤ m) → first_above m i xs ≡ None
+none_below m i [] h = refl
+none_below m i (x ∷ xs) h = first_above_later m i x xs (h 0) ∙ none_below m (i + 1) xs (λ k. h (suc k))
+
+pub refusals_are_exact : RefusalsAreExact
+refusals_are_exact rs ws as' = (gives, takes)
+  where
+    gives : first_refusal rs ws as' ≡ None → Accepted rs ws as'
+    gives h =
+        let rule = or_parts (option_map RuleRefused (rule_fault rs)) _ h in
+        let rest = or_parts (option_map Pans (pans_fault (length ws) (length as'))) _ rule.1 in
+        accepted rs ws as' (mapped_none RuleRefused _ rule.0) (mapped_none Pans _ rest.0) (mapped_none Number _ rest.1)
+
+    takes : Accepted rs ws as' → first_refusal rs ws as' ≡ None
+    takes a =
+        rw (
+          eq-eqb (length rs) 4 a.four,
+          none_below 1000000 0 rs a.small,
+          le-leb 1 (get_or rs 0 0) a.some,
+          le-leb 1 (length ws) a.present,
+          le-leb (length ws) 24 a.few,
+          eq-eqb (length as') (length ws) a.paired,
+          first_above_append 1000000 0 ws as',
+          none_below 1000000 0 ws a.light,
+          none_below 1000000 (0 + length ws) as' a.young,
+        )
+
+-- what is accepted is in order
+pub ready : {rs ws as' : List ℕ} → Accepted rs ws as' → Ready (rule_in rs) ws as'
+ready a =
+    record {
+      some = a.some;
+      target = a.small 0;
+      above = a.small 1;
+      pans = a.small 2;
+      age = a.small 3;
+      present = a.present;
+      few = a.few;
+      paired = a.paired;
+      light = a.light;
+      young = a.young;
+    }

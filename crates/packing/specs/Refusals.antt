@@ -1,0 +1,82 @@
+-- What is turned away, by the first refusal of the list that applies, and where. Assumes nothing: these are definitions.
+--   Accepted       a rule, weights and ages of which nothing is turned away
+--   first_above    the place of the first number above a limit
+--   first_refusal  1: the rule isn't four numbers, one is above 1,000,000, or the target is 0
+--                  2: there is no pan, there are more than 24, or not an age for each
+--                  3: a weight or an age is above 1,000,000
+--   room_refusal   after these, 5: the lent room has fewer entries than the ring's halves take
+--                  (4 is for texts that can't be read)
+--   Ready          a rule and pans of which nothing is turned away, the rule as one
+use Rattle.std.specs.Prelude.{◌≡◌, ℕ, ◌+◌, ◌≤◌, min, Bool, true, false, cond, ◌&&◌, List, [], ◌∷◌, ◌++◌, length, Some, None, Option, ◌==◌, nat_le, slice_index}
+use Rattle.std.specs.Option.{option_map}
+use Rattle.choices.specs.declared.rule.Rule.{Rule}
+use Rattle.halves.specs.Next.{room_for}
+use Rattle.packing.specs.declared.refusal.Refusal.{Refusal}
+use Rattle.packing.specs.declared.refusal.Refusal.TheVariants.{Rule as RuleRefused, Pans, Number, Line, Room}
+
+abbrev pub refusal_number : Refusal → ℕ
+refusal_number (RuleRefused p) = 1
+refusal_number (Pans p) = 2
+refusal_number (Number p) = 3
+refusal_number (Line p) = 4
+refusal_number (Room p) = 5
+
+abbrev pub refusal_place : Refusal → ℕ
+refusal_place (RuleRefused p) = p
+refusal_place (Pans p) = p
+refusal_place (Number p) = p
+refusal_place (Line p) = p
+refusal_place (Room p) = p
+
+-- the first of two, where there is one
+abbrev pub or_else : {X : Type 0} → Option X → Option X → Option X
+or_else None y = y
+or_else (Some x) y = Some x
+
+-- places are counted from i on
+abbrev pub first_above : (limit i : ℕ) → List ℕ → Option ℕ
+first_above m i [] = None
+first_above m i (x ∷ xs) = cond (nat_le x m) (first_above m (i + 1) xs) (Some i)
+
+-- the first number missing or too many; then the first above the limit; then a target of 0
+abbrev pub rule_fault : List ℕ → Option ℕ
+rule_fault rs =
+    cond (length rs == 4) (or_else (first_above 1000000 0 rs) (cond (nat_le 1 (slice_index rs 0)) None (Some 0))) (Some (min (length rs) 4))
+
+-- how many pans, where that is wrong; then how many ages
+abbrev pub pans_fault : (pans ages : ℕ) → Option ℕ
+pans_fault n m = cond (nat_le 1 n && nat_le n 24) (cond (m == n) None (Some m)) (Some n)
+
+abbrev pub first_refusal : (rule weights ages : List ℕ) → Option Refusal
+first_refusal rs ws as' =
+    or_else (option_map RuleRefused (rule_fault rs))
+    (or_else (option_map Pans (pans_fault (length ws) (length as'))) (option_map Number (first_above 1000000 0 (ws ++ as'))))
+
+abbrev pub room_refusal : (rule weights ages : List ℕ) → (entries : ℕ) → Option Refusal
+room_refusal rs ws as' m = or_else (first_refusal rs ws as') (cond (nat_le (room_for (length ws)) m) None (Some (Room (room_for (length ws)))))
+
+pub record Accepted (rs ws as' : List ℕ) : Type 0 where
+  pub four : length rs ≡ 4
+  pub some : 1 ≤ slice_index rs 0
+  pub small : (i : ℕ) → slice_index rs i ≤ 1000000
+  pub present : 1 ≤ length ws
+  pub few : length ws ≤ 24
+  pub paired : length as' ≡ length ws
+  pub light : (i : ℕ) → slice_index ws i ≤ 1000000
+  pub young : (i : ℕ) → slice_index as' i ≤ 1000000
+
+-- a rule in numbers: target, above, pans, age
+abbrev pub rule_in : List ℕ → Rule
+rule_in rs = record { target = slice_index rs 0; above = slice_index rs 1; pans = slice_index rs 2; age = slice_index rs 3 }
+
+pub record Ready (r : Rule) (ws as' : List ℕ) : Type 0 where
+  pub some : 1 ≤ r.target
+  pub target : r.target ≤ 1000000
+  pub above : r.above ≤ 1000000
+  pub pans : r.pans ≤ 1000000
+  pub age : r.age ≤ 1000000
+  pub present : 1 ≤ length ws
+  pub few : length ws ≤ 24
+  pub paired : length as' ≡ length ws
+  pub light : (i : ℕ) → slice_index ws i ≤ 1000000
+  pub young : (i : ℕ) → slice_index as' i ≤ 1000000

@@ -1,0 +1,73 @@
+// What one look over a ring tells of its table.
+ghost use Rattle.std.specs.Prelude.{◌≡◌, ◌+◌, ◌-◌, ◌^◌, ◌<◌, min, cond, ◌&&◌, ◌||◌, nat_le};
+ghost use Rattle.choices.specs.Choice.{bit};
+
+use choices::Rule;
+
+// What the pans weigh that have to be opened, and how many they are; what the others weigh, and how many of them are
+// not empty, each of which has a row; and whether no pan that has to be opened is empty.
+#[derive(Clone, Copy)]
+pub struct Survey {
+    pub due: u32,
+    pub held: u32,
+    pub free: u32,
+    pub rows: usize,
+    pub ready: bool,
+}
+
+impl Survey {
+    pub const NOTHING: Survey = Survey {
+        due: 0,
+        held: 0,
+        free: 0,
+        rows: 0,
+        ready: true,
+    };
+
+    // The survey with one pan more.
+    pub fn with(self, weight: u32, may_wait: bool) -> Survey
+        requires { (self.due + weight < 2 ^ 32) × ((self.free + weight < 2 ^ 32) × ((self.held + 1 < 2 ^ 32) × (self.rows + 1 < 2 ^ 32))) }
+        ensures due { result.due ≡ self.due + cond may_wait 0 weight }
+        ensures held { result.held ≡ self.held + cond may_wait 0 1 }
+        ensures free { result.free ≡ self.free + cond may_wait weight 0 }
+        ensures rows { result.rows ≡ self.rows + bit (may_wait && nat_le 1 weight) }
+        ensures ready { result.ready ≡ (self.ready && (may_wait || nat_le 1 weight)) }
+    {
+        if may_wait {
+            Survey {
+                free: self.free + weight,
+                rows: if weight >= 1 {
+                    self.rows + 1
+                } else {
+                    self.rows
+                },
+                ..self
+            }
+        } else {
+            Survey {
+                due: self.due + weight,
+                held: self.held + 1,
+                ready: self.ready & (weight >= 1),
+                ..self
+            }
+        }
+    }
+
+    // Whether the pans that have to be opened leave a bag possible: none of them is empty, and they are neither too many nor too heavy.
+    pub fn leaves_a_bag(self, rule: Rule) -> bool
+        requires { rule.target + rule.above < 2 ^ 32 }
+        ensures { result ≡ (self.ready && (nat_le self.held rule.pans && nat_le self.due (rule.target + rule.above))) }
+    {
+        self.ready & ((self.held <= rule.pans) & (self.due <= rule.target + rule.above))
+    }
+
+    // The most that the free pans of a bag may weigh.
+    pub fn span(self, rule: Rule) -> usize
+        requires { rule.target + rule.above < 2 ^ 32 }
+        ensures { result ≡ min (rule.target + rule.above - self.due) self.free }
+    {
+        (rule.target + rule.above)
+            .saturating_sub(self.due)
+            .min(self.free) as usize
+    }
+}

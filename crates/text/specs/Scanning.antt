@@ -1,0 +1,41 @@
+-- What is found where numbers stand each after a blank.
+use Rattle.std.specs.Prelude.{◌≡◌, ℕ, ◌-◌, ◌^◌, ◌<◌, ◌≤◌, min, List, [], ◌∷◌, ◌++◌, map, length, take, Ok, Err, vec_items, Option, Result, Vec, MatchOption, ◌≢◌, slice_index}
+use Rattle.std.specs.Borrow.{Bor}
+use Rattle.std.specs.declared.alloc.Global.{Global}
+use Rattle.std.specs.Str.Parse.{AllDigits, digits_value}
+use Rattle.std.specs.Int.{IsInRange}
+use Rattle.text.specs.declared.commands.Fault.{Fault}
+use Rattle.text.specs.declared.commands.Fault.TheVariants.{Unreadable, NoMemory}
+use Rattle.text.specs.Written.{numeral, spaced}
+
+-- what is kept of a number in 32 bits: the largest one where it is larger
+abbrev pub capped : ℕ → ℕ
+capped n = min n (2 ^ 32 - 1)
+
+-- the first count bytes are digits and write a number that is kept as n, and no digit follows
+pub record Figures (bs : List ℕ) (n count : ℕ) : Type 0 where
+  pub within : count ≤ length bs
+  pub digits : AllDigits 10 (take count bs)
+  pub kept : n ≡ capped (digits_value 10 (take count bs))
+  pub stops : count < length bs → IsInRange 48 57 (slice_index bs count) → ⊥
+
+-- bs is a number after its blank and then rest, and cannot be taken apart in another way
+pub record Begins (bs : List ℕ) (n : ℕ) (rest : List ℕ) : Type 0 where
+  pub number : ℕ
+  pub kept : n ≡ capped number
+  pub split : bs ≡ 32 ∷ (numeral number ++ rest)
+  pub only : (ns : List ℕ) → bs ≡ spaced ns → (ms : List ℕ) × (ns ≡ number ∷ ms) × (rest ≡ spaced ms)
+
+abbrev pub NextNumber : List ℕ → Option (ℕ × Bor (List ℕ)) → Type 0
+NextNumber bs r = MatchOption r ((ns : List ℕ) → bs ≡ spaced ns → ns ≡ []) (λ x. Begins bs x.0 x.1.now)
+
+abbrev pub OneNumber : List ℕ → Option ℕ → Type 0
+OneNumber bs r = MatchOption r ((n : ℕ) → bs ≢ spaced (n ∷ [])) (λ x. (n : ℕ) × (bs ≡ spaced (n ∷ [])) × (x ≡ capped n))
+
+abbrev pub TwoNumbers : List ℕ → Option (ℕ × ℕ) → Type 0
+TwoNumbers bs r = MatchOption r ((m n : ℕ) → bs ≢ spaced (m ∷ n ∷ [])) (λ x. (m : ℕ) × (n : ℕ) × (bs ≡ spaced (m ∷ n ∷ [])) × (x.0 ≡ capped m) × (x.1 ≡ capped n))
+
+abbrev pub Listed : List ℕ → Result (Vec ℕ Global) Fault → Type 0
+Listed bs (Ok v) = (ns : List ℕ) × (bs ≡ spaced ns) × (vec_items v ≡ map capped ns)
+Listed bs (Err Unreadable) = (ns : List ℕ) → bs ≢ spaced ns
+Listed bs (Err NoMemory) = bs ≡ [] → ⊥

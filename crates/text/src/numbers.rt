@@ -1,0 +1,36 @@
+// Numbers in a line, each after a blank.
+ghost use Rattle.std.specs.Fmt.{WritesOnOk};
+ghost use Rattle.text.specs.Written.{spaced, written};
+ghost use Rattle.std.specs.Prelude.{[], ◌∷◌};
+
+use crate::words::Word;
+use std::fmt;
+
+// One number after its blank.
+pub fn put_number<W: fmt::Write>(f: &mut fmt::Formatter<W>, n: u32) -> fmt::Result
+    ensures { WritesOnOk write_str_gives f.old result (spaced (n ∷ [])) f.new }
+{
+    write!(f, " {n}")
+}
+
+// The numbers in their order.
+fn put_numbers<W: fmt::Write>(f: &mut fmt::Formatter<W>, numbers: &[u32]) -> fmt::Result
+    ensures { WritesOnOk write_str_gives f.old result (spaced numbers.now) f.new }
+{
+    for n in numbers {
+        put_number(f, *n)?;
+    }
+    Ok(())
+}
+
+// A word and its numbers, as a command is written.
+pub fn put_line<W: fmt::Write>(
+    f: &mut fmt::Formatter<W>,
+    word: Word,
+    numbers: &[u32],
+) -> fmt::Result
+    ensures { WritesOnOk write_str_gives f.old result (written word numbers.now) f.new }
+{
+    f.write_str(word.text())?;
+    put_numbers(f, numbers)
+}
