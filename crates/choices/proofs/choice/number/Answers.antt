@@ -3,11 +3,11 @@ use Rattle.std.proofs.Common.{◌≡◌, ◌+◌, ◌*◌, ◌/◌, ◌%◌, ◌
 use Rattle.choices.proofs.Numbers.{number_room, number_more}
 use Rattle.choices.proofs.choice.number.Goals as goal
 
-pub overflow-mul-made : goal.overflow-mul-made
-overflow-mul-made c = omega (arith, number_room c.loop-place.place c.args.choice (omega arith))
+pub overflow_mul-made : goal.overflow_mul-made
+overflow_mul-made c = omega (arith, number_room c.loop-place.place c.args.choice (omega arith))
 
-pub overflow-add-made : goal.overflow-add-made
-overflow-add-made c = omega (arith, number_room c.loop-place.place c.args.choice (omega arith))
+pub overflow_add-made : goal.overflow_add-made
+overflow_add-made c = omega (arith, number_room c.loop-place.place c.args.choice (omega arith))
 
 pub loop-place-preserved : goal.loop-place-preserved
 loop-place-preserved c = omega (arith, number_more c.loop-place.place c.args.choice)

@@ -4,11 +4,11 @@ use Rattle.std.proofs.lemmas.Iterator.{empty_from_Zip}
 use Rattle.choices.proofs.Looking.{looking_next, looking_all, looking_room}
 use Rattle.choices.proofs.tally.look.Goals as goal
 
-pub overflow-cast-place : goal.overflow-cast-place
-overflow-cast-place c = omega (arith, c.loop-w.invariant.2.few)
+pub overflow_cast-place : goal.overflow_cast-place
+overflow_cast-place c = omega (arith, c.loop-w.invariant.2.few)
 
-pub overflow-shr-choice : goal.overflow-shr-choice
-overflow-shr-choice c = omega (arith, c.loop-w.invariant.2.few)
+pub overflow_shr-choice : goal.overflow_shr-choice
+overflow_shr-choice c = omega (arith, c.loop-w.invariant.2.few)
 
 pub with-seen-requires : goal.with-seen-requires
 with-seen-requires c = omega (arith, looking_room c.loop-w.invariant.2 c.in-Some.ensures.steps.0)

@@ -3,5 +3,5 @@ use Rattle.std.proofs.lemmas.Result.{IfOk-from_err}
 use Rattle.desk.specs.Kept.{Fresh}
 use Rattle.desk.proofs.kept.empty_desk.Goals as goal
 
-pub returns-in-err-bytes : goal.returns-in-err-bytes
-returns-in-err-bytes c = IfOk-from_err c.from-residual-in-err-bytes.result (λ d. Fresh d) c.from-residual-in-err-bytes.ensures.0
+pub returns-in_err-bytes : goal.returns-in_err-bytes
+returns-in_err-bytes c = IfOk-from_err c.from_residual-in_err-bytes.result (λ d. Fresh d) c.from_residual-in_err-bytes.ensures.0

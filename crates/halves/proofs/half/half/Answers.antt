@@ -5,8 +5,8 @@ use Rattle.std.proofs.lemmas.Nat.{one_shl, pow_pos}
 use Rattle.halves.proofs.ByPan.{half_last, half_step, half_thin, half_room, half_below, half_first}
 use Rattle.halves.proofs.half.half.Goals as goal
 
-pub overflow-sub-es : goal.overflow-sub-es
-overflow-sub-es c =
+pub overflow_sub-es : goal.overflow_sub-es
+overflow_sub-es c =
     let b = c.args.behind in
     let n = length c.args.weights.now in
     let m : 2 ^ b ≤ 2 ^ (b + n) = pow_mono (omega arith) in

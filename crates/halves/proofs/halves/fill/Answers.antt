@@ -8,10 +8,10 @@ pub half-front-requires : goal.half-front-requires
 half-front-requires c =
     let ws = c.args.pans.weights.now in
     record {
-      paired = omega (arith, c.split-at.ensures.front-len, c.split-at-2.ensures.front-len);
-      few = omega (arith, c.split-at.ensures.front-len);
-      heavy = rw c.split-at.ensures.front (heavy_take _ (length ws / 2) ws (λ i. omega (arith, c.from-3.ensures, c.heaviest.ensures.most i)));
-      room = rw (c.split-at.ensures.front-len, sym c.cut-at.ensures) (search rules);
+      paired = omega (arith, c.split_at.ensures.front-len, c.split_at-2.ensures.front-len);
+      few = omega (arith, c.split_at.ensures.front-len);
+      heavy = rw c.split_at.ensures.front (heavy_take _ (length ws / 2) ws (λ i. omega (arith, c.from-3.ensures, c.heaviest.ensures.most i)));
+      room = rw (c.split_at.ensures.front-len, sym c.cut-at.ensures) (search rules);
     }
 
 pub returns : goal.returns
@@ -19,7 +19,7 @@ returns c =
     let ws = c.args.pans.weights.now in
     record {
       filled = filled_both ws c.args.pans.ways.now c.args.room.now c.half-front.new.es c.half-back.new.es c.cut-at.result _ _ _ _ c.cut-at.ensures c.requires
-          (search rules) (search rules) (λ i. omega (arith, c.from-3.ensures, c.heaviest.ensures.most i)) (rw (c.split-at.ensures.front, c.split-at-2.ensures.front) at c.half-front.ensures) (rw (c.split-at.ensures.back, c.split-at-2.ensures.back) at c.half-back.ensures);
+          (search rules) (search rules) (λ i. omega (arith, c.from-3.ensures, c.heaviest.ensures.most i)) (rw (c.split_at.ensures.front, c.split_at-2.ensures.front) at c.half-front.ensures) (rw (c.split_at.ensures.back, c.split_at-2.ensures.back) at c.half-back.ensures);
       limit = search rules;
       least = search rules;
       to = refl;

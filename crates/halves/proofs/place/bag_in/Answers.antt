@@ -9,5 +9,5 @@ pub returns : goal.returns
 returns c = λ cs e at.
     let ws = c.args.ring.weights.now in (
       rw (one_shl (length ws) 64 (omega (arith, c.args.ring.few)), sym at) at c.number.ensures ∙ opened_pans ws cs (length ws) c.args.ring.few refl e,
-      c.weight-in.ensures ∙ rw at at (place_says ws cs c.args.ring.few e).0,
+      c.weight_in.ensures ∙ rw at at (place_says ws cs c.args.ring.few e).0,
     )

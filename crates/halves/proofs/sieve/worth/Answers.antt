@@ -3,5 +3,5 @@ use Rattle.std.proofs.Common.{arith}
 use Rattle.halves.proofs.Sieving.{most_small}
 use Rattle.halves.proofs.sieve.worth.Goals as goal
 
-pub overflow-add-result : goal.overflow-add-result
-overflow-add-result c = omega (arith, most_small c.args.bounds, c.weight-in.ensures)
+pub overflow_add-result : goal.overflow_add-result
+overflow_add-result c = omega (arith, most_small c.args.bounds, c.weight_in.ensures)

@@ -20,5 +20,5 @@ loop-a-preserved c = (
 pub returns : goal.returns
 returns c = sym (marking_all (λ c a. cond c 0 (a + 1)) c.loop-a.ages c.loop-a.a-index c.loop-a.left (omega arith)) ∙ c.loop-a.invariant.0
 
-pub overflow-add-a : goal.overflow-add-a
-overflow-add-a c = omega (arith, c.loop-a.invariant.1 c.loop-a.a-index (omega arith))
+pub overflow_add-a : goal.overflow_add-a
+overflow_add-a c = omega (arith, c.loop-a.invariant.1 c.loop-a.a-index (omega arith))

@@ -11,4 +11,4 @@ pub returns-in-None : goal.returns-in-None
 returns-in-None c =
     let n = length c.args.weights.now in
     let e : 0 + n ≡ n = omega arith in
-    rw (first_above_append 1000000 0 c.args.weights.now c.args.ages.now, sym c.in-None.ensures, e) c.first-above-in-None.ensures
+    rw (first_above_append 1000000 0 c.args.weights.now c.args.ages.now, sym c.in-None.ensures, e) c.first_above-in-None.ensures

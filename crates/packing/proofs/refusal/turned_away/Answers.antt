@@ -5,8 +5,8 @@ use Rattle.packing.proofs.refusal.turned_away.Goals as goal
 
 pub returns-in-None : goal.returns-in-None
 returns-in-None c =
-    let rule = sym c.in-default.ensures in
-    let pans = sym c.in-default-pans-fault.ensures in
+    let rule = sym c.in_default.ensures in
+    let pans = sym c.in_default-pans_fault.ensures in
     let numbers = sym c.in-None.ensures in
     record {
       value = rw (rule, pans, numbers);

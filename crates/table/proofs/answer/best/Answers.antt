@@ -3,13 +3,13 @@ use Rattle.std.proofs.Common.{sym, ◌∙◌}
 use Rattle.table.proofs.Bests.{laid, leaves_from, none_left}
 use Rattle.table.proofs.answer.best.Goals as goal
 
-pub look-up-requires : goal.look-up-requires
-look-up-requires c =
+pub look_up-requires : goal.look_up-requires
+look_up-requires c =
     let h = c.survey-seen.ensures in
-    record { seen = h; leaves = leaves_from h (sym c.leaves-a-bag.ensures ∙ c.if-not-leaves-a-bag.false); laid = laid h c.args.ring.target c.args.ring.above c.span.ensures c.requires }
+    record { seen = h; leaves = leaves_from h (sym c.leaves_a_bag.ensures ∙ c.if-not-leaves_a_bag.false); laid = laid h c.args.ring.target c.args.ring.above c.span.ensures c.requires }
 
-pub returns-then-not-leaves-a-bag : goal.returns-then-not-leaves-a-bag
-returns-then-not-leaves-a-bag c =
+pub returns-then-not-leaves_a_bag : goal.returns-then-not-leaves_a_bag
+returns-then-not-leaves_a_bag c =
     let h = c.survey-seen.ensures in
     none_left c.args.ring.rule c.args.ring.weights.now c.args.ring.ages.now c.args.ring.paired
-    (rw (h.ready, h.held, h.due) at (sym c.leaves-a-bag.ensures ∙ c.if-not-leaves-a-bag.true))
+    (rw (h.ready, h.held, h.due) at (sym c.leaves_a_bag.ensures ∙ c.if-not-leaves_a_bag.true))

@@ -18,12 +18,12 @@ read-requires c =
 pub returns-in-None : goal.returns-in-None
 returns-in-None c =
     none_found
-    (window c.requires.seen c.requires.leaves c.requires.laid c.args.ring.paired c.args.ring.few c.fill.ensures c.saturating-sub-from.ensures c.min-limit.ensures)
+    (window c.requires.seen c.requires.leaves c.requires.laid c.args.ring.paired c.args.ring.few c.fill.ensures c.saturating_sub-from.ensures c.min-limit.ensures)
     c.in-None.ensures
 
 pub returns-in-Some : goal.returns-in-Some
 returns-in-Some c =
     rw c.requires.seen.due
     (best_found
-    (window c.requires.seen c.requires.leaves c.requires.laid c.args.ring.paired c.args.ring.few c.fill.ensures c.saturating-sub-from.ensures c.min-limit.ensures)
+    (window c.requires.seen c.requires.leaves c.requires.laid c.args.ring.paired c.args.ring.few c.fill.ensures c.saturating_sub-from.ensures c.min-limit.ensures)
     c.in-Some.ensures c.read.ensures)

@@ -11,11 +11,11 @@ loop-pan-init c = reading_none _ _ _ _ _ _ _ _ c.requires.top c.requires.within 
 pub returns : goal.returns
 returns c = reading_all c.loop-pan.invariant c.requires.rows (omega arith) c.args.ring.paired
 
-pub overflow-add-pans : goal.overflow-add-pans
-overflow-add-pans c = omega (arith, one_shl c.loop-pan.pan 32 (omega arith), pow_below c.loop-pan.pan 24 (omega arith), c.loop-pan.invariant.small)
+pub overflow_add-pans : goal.overflow_add-pans
+overflow_add-pans c = omega (arith, one_shl c.loop-pan.pan 32 (omega arith), pow_below c.loop-pan.pan 24 (omega arith), c.loop-pan.invariant.small)
 
-pub overflow-sub-row : goal.overflow-sub-row
-overflow-sub-row c = omega (arith, reading_row c.loop-pan.invariant c.requires.rows c.loop-pan-test.true c.args.ring.paired c.if-ring-pan.false c.if-lies-gt0.true)
+pub overflow_sub-row : goal.overflow_sub-row
+overflow_sub-row c = omega (arith, reading_row c.loop-pan.invariant c.requires.rows c.loop-pan-test.true c.args.ring.paired c.if-ring-pan.false c.if-lies-gt0.true)
 
 pub opens-requires : goal.opens-requires
 opens-requires c = let h = reading_room c.loop-pan.invariant (omega arith) in omega (arith, h, c.requires.enough)

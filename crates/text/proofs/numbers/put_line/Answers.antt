@@ -6,5 +6,5 @@ use Rattle.text.proofs.numbers.put_line.Goals as goal
 
 pub returns : goal.returns
 returns g c = λ plain ok.
-    put_then (c.in-ok-write-str.ensures.writes plain refl) (λ still. c.put-numbers.ensures still ok)
+    put_then (c.in_ok-write_str.ensures.writes plain refl) (λ still. c.put_numbers.ensures still ok)
     (ap (λ l. l ++ spaced c.args.numbers.now) c.text.ensures)

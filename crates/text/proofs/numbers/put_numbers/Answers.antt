@@ -12,7 +12,7 @@ loop-n-init g c = λ plain. put_none plain
 
 pub loop-n-preserved : goal.loop-n-preserved
 loop-n-preserved g c = λ plain.
-    put_then (c.loop-n.invariant plain) (λ still. c.in-ok-put-number.ensures still refl) (spaced_more c.args.numbers.now c.loop-n.n-index (omega arith))
+    put_then (c.loop-n.invariant plain) (λ still. c.in_ok-put_number.ensures still refl) (spaced_more c.args.numbers.now c.loop-n.n-index (omega arith))
 
 pub returns : goal.returns
 returns g c = λ plain ok. has_written_of_eq g.W.Write.write_str_gives _ _ _ _ (ap spaced (take_all c.loop-n.n-index c.args.numbers.now (omega arith))) (c.loop-n.invariant plain)

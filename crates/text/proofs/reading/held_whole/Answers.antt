@@ -8,4 +8,4 @@ whole [] small = refl
 whole (n ∷ ns) small = let one : capped n ≡ n = omega (arith, small 0) in (λ i. one i ∷ whole ns (λ k. small (suc k)) i)
 
 pub returns : goal.returns
-returns c = whole c.args.numbers.now (λ i. omega (arith, c.type-inv.numbers i))
+returns c = whole c.args.numbers.now (λ i. omega (arith, c.type_inv.numbers i))

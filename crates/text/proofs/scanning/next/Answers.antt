@@ -4,8 +4,8 @@ use Rattle.text.proofs.Found.{after_blank, no_blank, no_number, no_digit, leadin
 use Rattle.text.proofs.scanning.next.Goals as goal
 use Rattle.text.proofs.scanning.next.Goals.{In-32, else-count-gt1-via-then-count-gt1+else-digits-eq-ZERO, else-count-gt1-via-else-count-gt1}
 
-pub returns-in-default : goal.returns-in-default
-returns-in-default c = no_blank c.args.text.now (search rules)
+pub returns-in_default : goal.returns-in_default
+returns-in_default c = no_blank c.args.text.now (search rules)
 
 whole : (c : In-32) → c.args.text.now ≡ 32 ∷ take (length c.args.text.now - 1) (drop 1 c.args.text.now)
 whole c = after_blank c.args.text.now (search rules) (search rules)

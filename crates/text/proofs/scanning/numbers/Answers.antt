@@ -11,8 +11,8 @@ loop-n-preserved c =
     let pushed : vec_items c.push.new.self ≡ vec_items c.loop-n.numbers ++ (c.in-Some.n ∷ []) = search rules in
     subst (λ l. Sofar c.args.text.now l c.in-Some.more.now) (sym pushed) (one_more _ _ _ _ _ c.loop-n.invariant c.in-Some.ensures)
 
-pub returns-then-is-err : goal.returns-then-is-err
-returns-then-is-err c = some_text _ _ _ _ _ c.loop-n.invariant c.in-Some.ensures
+pub returns-then-is_err : goal.returns-then-is_err
+returns-then-is_err c = some_text _ _ _ _ _ c.loop-n.invariant c.in-Some.ensures
 
-pub returns-then-is-empty : goal.returns-then-is-empty
-returns-then-is-empty c = done _ _ _ c.loop-n.invariant (true-eqb _ 0 c.if-is-empty.ensures)
+pub returns-then-is_empty : goal.returns-then-is_empty
+returns-then-is_empty c = done _ _ _ c.loop-n.invariant (true-eqb _ 0 c.if-is_empty.ensures)
