@@ -17,7 +17,7 @@ pub loop-w-preserved : goal.loop-w-preserved
 loop-w-preserved c =
     let h = c.in-Some.ensures.steps in
     let e = c.with-seen.ensures in
-    ((tt, tt), (tt, tt), looking_next c.loop-w.invariant.2 h.0 h.1 e.weighs e.counts e.fills e.waits)
+    ((tt, tt), tt, looking_next c.loop-w.invariant.2 h.0 h.1 e.weighs e.counts e.fills e.waits)
 
 pub returns : goal.returns
 returns c =
