@@ -8,14 +8,14 @@ use std::fmt;
 
 // One number after its blank.
 pub fn put_number<W: fmt::Write>(f: &mut fmt::Formatter<W>, n: u32) -> fmt::Result
-    ensures { WritesOnOk write_str_gives f.old result (spaced (n ∷ [])) f.new }
+    ensures { WritesOnOk W.write_str_gives f.old result (spaced (n ∷ [])) f.new }
 {
     write!(f, " {n}")
 }
 
 // The numbers in their order.
 fn put_numbers<W: fmt::Write>(f: &mut fmt::Formatter<W>, numbers: &[u32]) -> fmt::Result
-    ensures { WritesOnOk write_str_gives f.old result (spaced numbers.now) f.new }
+    ensures { WritesOnOk W.write_str_gives f.old result (spaced numbers.now) f.new }
 {
     for n in numbers {
         put_number(f, *n)?;
@@ -29,7 +29,7 @@ pub fn put_line<W: fmt::Write>(
     word: Word,
     numbers: &[u32],
 ) -> fmt::Result
-    ensures { WritesOnOk write_str_gives f.old result (written word numbers.now) f.new }
+    ensures { WritesOnOk W.write_str_gives f.old result (written word numbers.now) f.new }
 {
     f.write_str(word.text())?;
     put_numbers(f, numbers)

@@ -28,7 +28,7 @@ pub enum Reply {
 
 // The opened pans, the lowest first, each after a blank.
 fn put_pans<W: fmt::Write>(f: &mut fmt::Formatter<W>, pans: u32) -> fmt::Result
-    ensures { WritesOnOk write_str_gives f.old result (spaced (pans_below 32 pans)) f.new }
+    ensures { WritesOnOk W.write_str_gives f.old result (spaced (pans_below 32 pans)) f.new }
 {
     for pan in 0..32u32 {
         if (pans >> pan) % 2 == 1 {
@@ -39,7 +39,7 @@ fn put_pans<W: fmt::Write>(f: &mut fmt::Formatter<W>, pans: u32) -> fmt::Result
 }
 
 fn put_open<W: fmt::Write>(f: &mut fmt::Formatter<W>, pans: u32, weight: u32) -> fmt::Result
-    ensures { WritesOnOk write_str_gives f.old result (open_text pans weight) f.new }
+    ensures { WritesOnOk W.write_str_gives f.old result (open_text pans weight) f.new }
 {
     f.write_str("open")?;
     put_pans(f, pans)?;
@@ -47,7 +47,7 @@ fn put_open<W: fmt::Write>(f: &mut fmt::Formatter<W>, pans: u32, weight: u32) ->
 }
 
 fn put_refused<W: fmt::Write>(f: &mut fmt::Formatter<W>, number: u64, place: u64) -> fmt::Result
-    ensures { WritesOnOk write_str_gives f.old result (refused_text number place) f.new }
+    ensures { WritesOnOk W.write_str_gives f.old result (refused_text number place) f.new }
 {
     write!(f, "refused {number} at {place}")
 }
@@ -59,7 +59,7 @@ fn put_season<W: fmt::Write>(
     given_away: u64,
     ended_early: bool,
 ) -> fmt::Result
-    ensures { WritesOnOk write_str_gives f.old result (season_text bags weight given_away ended_early) f.new }
+    ensures { WritesOnOk W.write_str_gives f.old result (season_text bags weight given_away ended_early) f.new }
 {
     let ending = if ended_early { ", then none" } else { "" };
     write!(f, "bags {bags}: {weight}, {given_away} given away{ending}")

@@ -8,10 +8,10 @@ pub half-front-requires : goal.half-front-requires
 half-front-requires c =
     let ws = c.args.pans.weights.now in
     record {
-      paired = omega (arith, c.split_at.ensures.front-len, c.split_at-2.ensures.front-len);
-      few = omega (arith, c.split_at.ensures.front-len);
+      paired = omega (arith, c.split_at.ensures.front_len, c.split_at-2.ensures.front_len);
+      few = omega (arith, c.split_at.ensures.front_len);
       heavy = rw c.split_at.ensures.front (heavy_take _ (length ws / 2) ws (λ i. omega (arith, c.from-3.ensures, c.heaviest.ensures.most i)));
-      room = rw (c.split_at.ensures.front-len, sym c.cut-at.ensures) (search rules);
+      room = rw (c.split_at.ensures.front_len, sym c.cut-at.ensures) (search rules);
     }
 
 pub returns : goal.returns
