@@ -1,5 +1,5 @@
 -- Laws of choices as numbers: every choice is some number, and every number is some choice.
-use Rattle.std.proofs.Common.{◌≡◌, ℕ, zero, suc, ◌+◌, ◌-◌, ◌*◌, ◌/◌, ◌%◌, ◌^◌, ◌<◌, ◌≤◌, Bool, true, false, cond, eqb, List, [], ◌∷◌, length, sym, refl, ap, ◌∙◌, ap₂, mul_assoc, mul_comm, add-one, arith}
+use Rattle.std.proofs.Common.{◌≡◌, ℕ, zero, suc, ◌+◌, ◌*◌, ◌/◌, ◌%◌, ◌^◌, ◌<◌, ◌≤◌, Bool, true, false, eqb, [], ◌∷◌, length, sym, refl, ap, ◌∙◌, ap₂, mul_assoc, mul_comm, add-one, arith}
 use native.Mathlib.Nat.{pow-succ', mul-add-div_right}
 use Rattle.std.proofs.lemmas.Nat.{pow_pos, pow_below, shr_high, mod-pow-add}
 use Rattle.std.proofs.lemmas.Bool.Decides.{nat_tests}

@@ -8,7 +8,7 @@
 --   marked       a number of each pan, changed by whether it is opened
 --   emptied      what lies in the pans after the bag
 --   aged         for how many bags each pan has waited after the bag
-use Rattle.std.specs.Prelude.{◌≡◌, ℕ, ◌+◌, Bool, true, false, cond, not, ◌&&◌, ◌||◌, List, [], ◌∷◌, length, ◌==◌, nat_le, nat_lt}
+use Rattle.std.specs.Prelude.{ℕ, ◌+◌, Bool, true, false, cond, not, ◌&&◌, ◌||◌, List, [], ◌∷◌, length, ◌==◌, nat_le, nat_lt}
 use Rattle.choices.specs.declared.rule.Rule.{Rule}
 
 abbrev pub Choice : Type 0

@@ -4,7 +4,7 @@
 --   Opens        every pan that the choice numbered a opens is opened by the choice numbered b
 --   number_of    the number that is answered for a choice: 2 to the power of each opened pan's number, added
 --   choice_from  the choice of n pans that such a number stands for
-use Rattle.std.specs.Prelude.{◌≡◌, ℕ, zero, suc, ◌+◌, ◌*◌, ◌/◌, ◌%◌, ◌^◌, Bool, true, List, [], ◌∷◌, ◌==◌}
+use Rattle.std.specs.Prelude.{◌≡◌, ℕ, zero, suc, ◌+◌, ◌*◌, ◌/◌, ◌%◌, ◌^◌, Bool, true, [], ◌∷◌, ◌==◌}
 use Rattle.choices.specs.Choice.{Choice, bit}
 
 abbrev pub odd : ℕ → Bool

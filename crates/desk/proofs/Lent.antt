@@ -1,5 +1,5 @@
 -- What is kept in vectors is lent as slices: what holds of the slices holds of the vectors.
-use Rattle.std.proofs.Common.{◌≡◌, ℕ, List, length, Option, ◌∙◌}
+use Rattle.std.proofs.Common.{◌≡◌, ℕ, List, Option}
 use Rattle.seasons.specs.Fall.{fall_refusal}
 use Rattle.text.specs.declared.replies.Reply.{Reply}
 use Rattle.desk.specs.Answers.{Bagged, PlayedSo, FellSo}

@@ -3,7 +3,7 @@
 --   table_refusal   what a bag would be turned away for; then 5 where the lent bytes are fewer than the ring's table takes
 --   Told            what a call over one engine answers: the first refusal's number, or the best bag's number
 --   SeasonTold     what a season's call answers and leaves
-use Rattle.std.specs.Prelude.{◌≡◌, ℕ, ◌+◌, ◌*◌, ◌^◌, Bool, cond, List, length, Some, None, Ok, Err, Option, Result, nat_le}
+use Rattle.std.specs.Prelude.{◌≡◌, ℕ, ◌+◌, ◌*◌, ◌^◌, cond, List, Some, None, Option, nat_le}
 use Rattle.choices.specs.Choice.{fits}
 use Rattle.choices.specs.declared.rule.Rule.{Rule}
 use Rattle.order.specs.Order.{Found}

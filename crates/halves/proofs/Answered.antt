@@ -1,20 +1,20 @@
 -- From a place back to the choice, and from a rule to ways: what the search answers is what the rule asks for.
-use Rattle.std.proofs.Common.{◌≡◌, ℕ, zero, suc, ◌+◌, ◌-◌, ◌*◌, ◌/◌, ◌%◌, ◌^◌, ◌<◌, ◌≤◌, Bool, true, false, cond, not, ◌&&◌, ◌||◌, ltb, leb, ◌⊎◌, List, [], ◌∷◌, ◌++◌, length, get_or, take, set, sym, refl, ap, ◌∙◌, ap₂, inl, inr, ⊎_elim, mul_assoc, arith}
+use Rattle.std.proofs.Common.{◌≡◌, ℕ, suc, ◌+◌, ◌-◌, ◌*◌, ◌%◌, ◌^◌, ◌<◌, ◌≤◌, Bool, true, false, ◌&&◌, ltb, leb, List, [], ◌∷◌, ◌++◌, length, get_or, take, set, sym, refl, ap, ◌∙◌, ⊎_elim, mul_assoc, arith}
 use Rattle.std.proofs.lemmas.Nat.{pow-add, mod_low}
 use Rattle.std.proofs.lemmas.Bool.{and_parts, and_from, cases_Bool, le-ltb}
 use Rattle.std.proofs.lemmas.List.{length-take, take_more, take_more_set}
-use Rattle.choices.specs.Choice.{Choice, bit, weight_of, opened, none_empty, keeps_old, fits}
+use Rattle.choices.specs.Choice.{Choice, weight_of, opened, none_empty, keeps_old, fits}
 use Rattle.choices.specs.Numbered.{choice_of, number_of}
 use Rattle.choices.specs.declared.rule.Rule.{Rule}
 use Rattle.choices.proofs.Numbers.{code, choice_of_code}
-use Rattle.choices.proofs.Choices.{Fitting, fitting, fits_from}
-use Rattle.halves.specs.Place.{by_ways, place, pans_in}
+use Rattle.choices.proofs.Choices.{fitting, fits_from}
+use Rattle.halves.specs.Place.{by_ways, place}
 use Rattle.order.specs.Order.{BestBag}
 use Rattle.order.specs.declared.bag.Bag.{Bag}
 use Rattle.halves.specs.Next.{Allowed, First}
 use Rattle.halves.specs.Ring.{way, ways, Says}
 use Rattle.halves.specs.declared.way.Way.{Way}
-use Rattle.halves.proofs.Places.{length_by_ways, better_place, shut, shut_below, shut_code, place_is, place_says}
+use Rattle.halves.proofs.Places.{length_by_ways, better_place, shut, shut_code, place_is, place_says}
 
 -- the lowest bits of a place say which pans are shut, and so which are opened
 pub lowest : (ws : List ℕ) (cs : Choice) (n : ℕ) → n ≤ 24 → length ws ≡ n → length cs ≡ n → 2 ^ n - 1 - place 0 ws cs % 2 ^ n ≡ code cs

@@ -1,12 +1,12 @@
 -- A half grows by one pan, from the last pan to the first.
-use Rattle.std.proofs.Common.{◌≡◌, ℕ, zero, suc, ◌+◌, ◌-◌, ◌*◌, ◌^◌, ◌<◌, ◌≤◌, Bool, true, false, cond, ◌&&◌, ◌⊎◌, List, [], ◌∷◌, ◌++◌, length, get_or, drop, set, sym, refl, ap, ◌∙◌, ap₂, inl, inr, ⊎_elim, add-mul, arith, pow_mono}
+use Rattle.std.proofs.Common.{◌≡◌, ℕ, zero, suc, ◌+◌, ◌-◌, ◌*◌, ◌^◌, ◌<◌, ◌≤◌, true, false, ◌⊎◌, List, [], ◌∷◌, length, get_or, drop, set, sym, refl, ap, ◌∙◌, inl, inr, add-mul, arith, pow_mono}
 use native.Mathlib.Nat.{pow-succ'}
 use Rattle.std.proofs.lemmas.Bool.{and_parts, and_from, both_ways}
 use Rattle.std.proofs.lemmas.Nat.{pow_below}
 use Rattle.std.proofs.lemmas.List.{drop_all, drop_more, length-drop, get_or-drop, get_or-set_same}
 use Rattle.choices.specs.Choice.{Choice, opened}
-use Rattle.halves.specs.Place.{by_ways, place, pans_in}
-use Rattle.halves.specs.Entries.{Rises, Holds, Grown}
+use Rattle.halves.specs.Place.{by_ways, place}
+use Rattle.halves.specs.Entries.{Holds, Grown}
 use Rattle.halves.specs.Half.{Half, Worth, Kept, Sieved}
 use Rattle.halves.specs.declared.bounds.Bounds.{Bounds}
 use Rattle.halves.specs.declared.way.Way.{Way}

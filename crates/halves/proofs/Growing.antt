@@ -1,7 +1,7 @@
 -- One pan more in a half: both ways in one merge, or one way alone.
-use Rattle.std.proofs.Common.{◌≡◌, ℕ, ◌+◌, ◌<◌, ◌≤◌, true, false, ◌⊎◌, List, get_or, sym, refl, ap, ◌∙◌, inl, inr, ⊎_elim, arith}
+use Rattle.std.proofs.Common.{◌≡◌, ℕ, ◌+◌, ◌<◌, true, false, List, get_or, sym, inl, inr, ⊎_elim, arith}
 use Rattle.std.proofs.lemmas.Bool.{cases_lt, both_ways}
-use Rattle.halves.specs.Entries.{Rises, Holds, Below, Merged, Grown, Opening}
+use Rattle.halves.specs.Entries.{Rises, Below, Merged, Grown, Opening}
 use Rattle.halves.specs.declared.way.Way.{Way}
 
 pub opening_some : (to : ℕ) (v : Way) (gain : ℕ) (es : List ℕ) (n m : ℕ) → v.opens ≡ true → Below es n gain to m → Opening to v gain es n m

@@ -1,11 +1,11 @@
 -- A choice of all pans is a choice of each half: its place, its count and its ways come together.
-use Rattle.std.proofs.Common.{◌≡◌, ℕ, zero, suc, ◌+◌, ◌-◌, ◌*◌, ◌^◌, ◌<◌, ◌≤◌, Bool, true, false, cond, ◌&&◌, ◌⊎◌, List, [], ◌∷◌, ◌++◌, length, get_or, take, drop, sym, refl, ap, ◌∙◌, ap₂, inl, inr, ⊎_elim, add-mul, arith, pow_mono}
+use Rattle.std.proofs.Common.{◌≡◌, ℕ, ◌+◌, ◌*◌, ◌^◌, ◌<◌, ◌≤◌, true, false, cond, List, [], ◌∷◌, ◌++◌, length, get_or, refl, ap, ◌∙◌, ⊎_elim, add-mul, arith, pow_mono}
 use Rattle.std.proofs.lemmas.Bool.{and_parts, and_from, both_ways, cases_lt}
 use Rattle.std.proofs.lemmas.Nat.{mul-le}
 use Rattle.std.proofs.lemmas.List.{length-append}
 use Rattle.choices.specs.Choice.{Choice, weight_of, opened}
 use Rattle.halves.specs.Place.{by_ways, place, pans_in}
-use Rattle.halves.specs.Entries.{Rises, Holds}
+use Rattle.halves.specs.Entries.{Holds}
 use Rattle.halves.specs.Half.{Half, Worth}
 use Rattle.halves.specs.declared.bounds.Bounds.{Bounds}
 use Rattle.halves.specs.Sweep.{Apart, Few, Pair, LeastSum}

@@ -1,13 +1,13 @@
 -- The order of choices is an order by three numbers, and what follows from that.
-use Rattle.std.proofs.Common.{◌≡◌, ℕ, suc, ◌+◌, ◌*◌, ◌%◌, ◌^◌, ◌<◌, Bool, true, false, ◌&&◌, ◌||◌, eqb, ltb, ◌⊎◌, List, [], ◌∷◌, length, sym, refl, ap, ◌∙◌, ap₂, inl, inr, arith}
+use Rattle.std.proofs.Common.{◌≡◌, ℕ, ◌%◌, ◌^◌, Bool, true, false, ltb, ◌⊎◌, List, [], ◌∷◌, length, sym, refl, ap, ◌∙◌, ap₂, inl, inr, arith}
 use Rattle.std.specs.Cmp.{IsStrictWeakOrder}
 use Rattle.std.proofs.lemmas.List.MinMax.{IsStrictWeakOrder-by_number, IsStrictWeakOrder-flip}
 use Rattle.std.proofs.lemmas.Bool.Decides.{nat_tests}
-use Rattle.std.proofs.lemmas.Bool.{both_ways, cases_Bool, cases_order}
-use Rattle.choices.specs.Choice.{Choice, bit, weight_of, opened}
+use Rattle.std.proofs.lemmas.Bool.{both_ways}
+use Rattle.choices.specs.Choice.{Choice, weight_of, opened}
 use Rattle.choices.specs.Numbered.{choice_of}
 use Rattle.choices.proofs.Numbers.{code, code_lt, choice_of_code, length_choice_of, code_choice_of}
-use Rattle.order.specs.Order.{then_by, first_more, better, BestOf}
+use Rattle.order.specs.Order.{then_by, first_more, better}
 use Rattle.order.specs.Laws.{OneIsBetter, BetterGoesOn, BestIsOne}
 
 pub ranks_then_by : {X : Type 0} (key : X → ℕ) (rest : X → X → Bool) → IsStrictWeakOrder rest → IsStrictWeakOrder (then_by key rest)

@@ -1,7 +1,7 @@
 -- A bag that was found and whose pans were opened is made; and two entries over the same pans answer the same.
-use Rattle.std.proofs.Common.{◌≡◌, ℕ, ◌≤◌, Bool, true, false, cond, leb, List, length, Some, None, Option, sym, refl, ap, ◌∙◌, ap₂}
+use Rattle.std.proofs.Common.{◌≡◌, ℕ, List, length, Some, None, Option, sym, refl, ap, ◌∙◌, ap₂}
 use Rattle.std.proofs.lemmas.Bool.{le-leb, both_ways}
-use Rattle.choices.specs.Choice.{Choice, fits, emptied, aged, weight_of}
+use Rattle.choices.specs.Choice.{fits, emptied, aged, weight_of}
 use Rattle.choices.specs.Numbered.{choice_from, number_of}
 use Rattle.choices.specs.declared.rule.Rule.{Rule}
 use Rattle.choices.proofs.Choices.{fitting}
@@ -10,7 +10,7 @@ use Rattle.halves.specs.Next.{room_for}
 use Rattle.order.specs.Order.{BestBag}
 use Rattle.order.specs.declared.bag.Bag.{Bag}
 use Rattle.order.proofs.Orders.{best_is_one}
-use Rattle.packing.specs.Entry.{Made, Same, Packed, Answered}
+use Rattle.packing.specs.Entry.{Made, Packed, Answered}
 use Rattle.packing.specs.Laws.{EntriesAgree, Alike}
 use Rattle.packing.specs.Refusals.{or_else, first_refusal, room_refusal, rule_in}
 use Rattle.packing.specs.declared.entry.Done.{Done}

@@ -7,7 +7,7 @@
 --   room_refusal   after these, 5: the lent room has fewer entries than the ring's halves take
 --                  (4 is for texts that can't be read)
 --   Ready          a rule and pans of which nothing is turned away, the rule as one
-use Rattle.std.specs.Prelude.{◌≡◌, ℕ, ◌+◌, ◌≤◌, min, Bool, true, false, cond, ◌&&◌, List, [], ◌∷◌, ◌++◌, length, Some, None, Option, ◌==◌, nat_le, slice_index}
+use Rattle.std.specs.Prelude.{◌≡◌, ℕ, ◌+◌, ◌≤◌, min, cond, ◌&&◌, List, [], ◌∷◌, ◌++◌, length, Some, None, Option, ◌==◌, nat_le, slice_index}
 use Rattle.std.specs.Option.{option_map}
 use Rattle.choices.specs.declared.rule.Rule.{Rule}
 use Rattle.halves.specs.Next.{room_for}

@@ -1,15 +1,14 @@
 -- One choice is best or none fits; and a looser rule has a bag that is no heavier.
-use Rattle.std.proofs.Common.{◌≡◌, ℕ, zero, suc, ◌+◌, ◌^◌, ◌<◌, ◌≤◌, Bool, true, false, ◌&&◌, ◌||◌, eqb, ltb, ◌⊎◌, List, [], ◌∷◌, length, Some, None, Option, sym, refl, ◌∙◌, inl, inr, add-one, arith}
+use Rattle.std.proofs.Common.{◌≡◌, ℕ, zero, suc, ◌+◌, ◌^◌, ◌≤◌, Bool, true, false, ltb, ◌⊎◌, List, [], ◌∷◌, length, Some, None, Option, sym, refl, ◌∙◌, inl, inr, add-one, arith}
 use Rattle.std.specs.Cmp.{IsStrictWeakOrder}
-use Rattle.std.proofs.lemmas.Bool.{both_ways, and_parts, and_from, ltb-true, lt-ltb, or_left, or_right}
+use Rattle.std.proofs.lemmas.Bool.{and_parts, and_from, ltb-true, lt-ltb}
 use Rattle.std.proofs.lemmas.Bool.Decides.{nat_tests}
-use Rattle.choices.specs.Choice.{Choice, weight_of, opened, keeps_old, fits}
+use Rattle.choices.specs.Choice.{Choice, weight_of, keeps_old, fits}
 use Rattle.choices.specs.Numbered.{choice_of}
-use Rattle.choices.specs.declared.rule.Rule.{Rule}
 use Rattle.choices.proofs.Choices.{fitting, fits_from}
 use Rattle.order.specs.Order.{better, BestOf, NoneOf}
 use Rattle.order.proofs.Orders.{ranks_better, best_is_one, better_is, ranked}
-use Rattle.search.specs.Sought.{Sought, Leads}
+use Rattle.search.specs.Sought.{Sought}
 use Rattle.search.proofs.Steps.{sought_kept, passes_shut, sought_first, sought_takes}
 use Rattle.search.proofs.Whole.{none_whatever, best_whatever}
 use Rattle.promises.specs.Promises.{OneBestOrNone, LooserIsLighter}

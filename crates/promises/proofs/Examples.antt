@@ -1,8 +1,8 @@
 -- The worked examples, by trying every choice of four pans: the checker computes the test.
-use Rattle.std.proofs.Common.{◌≡◌, ℕ, zero, suc, ◌^◌, ◌<◌, Bool, true, false, not, ◌&&◌, ◌||◌, ◌⊎◌, List, [], ◌∷◌, length, sym, refl, ◌∙◌, inl, inr, lit<}
+use Rattle.std.proofs.Common.{◌≡◌, ℕ, zero, suc, ◌^◌, ◌<◌, Bool, true, not, ◌&&◌, ◌||◌, List, [], ◌∷◌, length, refl, inl, inr, lit<}
 use Rattle.std.proofs.lemmas.Bool.{not-true, or_cases, both_ways}
 use Rattle.std.proofs.lemmas.Bool.Decides.{Decides-below_and}
-use Rattle.choices.specs.Choice.{Choice, fits}
+use Rattle.choices.specs.Choice.{fits}
 use Rattle.choices.specs.Numbered.{choice_of}
 use Rattle.choices.specs.declared.rule.Rule.{Rule}
 use Rattle.choices.proofs.Choices.{fitting}

@@ -1,7 +1,7 @@
 -- Rows of bags: nothing is lost, no pan waits too long, and the bags weigh enough.
-use Rattle.std.proofs.Common.{◌≡◌, ℕ, zero, suc, ◌+◌, ◌*◌, ◌<◌, ◌≤◌, Bool, true, false, cond, ◌&&◌, ◌||◌, ltb, List, [], ◌∷◌, length, get_or, sym, refl, ap, ◌∙◌, suc-mul, arith}
+use Rattle.std.proofs.Common.{◌≡◌, ℕ, zero, suc, ◌+◌, Bool, true, false, ltb, List, [], ◌∷◌, length, sym, refl, ap, ◌∙◌, suc-mul, arith}
 use Rattle.std.proofs.lemmas.Bool.{and_parts, ltb-true}
-use Rattle.choices.specs.Choice.{Choice, weight_of, keeps_old, fits, marked, emptied, aged}
+use Rattle.choices.specs.Choice.{Choice, keeps_old, marked, aged}
 use Rattle.choices.specs.declared.rule.Rule.{Rule}
 use Rattle.choices.proofs.Choices.{fitting}
 use Rattle.packing.specs.Entry.{Made}

@@ -1,6 +1,6 @@
 -- Worked examples, as statements about the definitions.
 use Rattle.std.specs.Prelude.{◌≡◌, ℕ, true, false, List, [], ◌∷◌}
-use Rattle.choices.specs.Choice.{Choice, weight_of, fits}
+use Rattle.choices.specs.Choice.{weight_of, fits}
 use Rattle.choices.specs.declared.rule.Rule.{Rule}
 use Rattle.order.specs.Order.{BestOf, NoneOf}
 

@@ -1,7 +1,7 @@
 -- The steps of a search: candidates that are passed over, one that is taken, and what the best so far is then.
-use Rattle.std.proofs.Common.{◌≡◌, ℕ, ◌+◌, ◌<◌, ◌≤◌, Bool, true, false, ◌⊎◌, Some, None, Option, refl, inl, inr, arith}
+use Rattle.std.proofs.Common.{◌≡◌, ℕ, ◌+◌, ◌<◌, ◌≤◌, Bool, true, false, Some, None, Option, refl, inl, inr, arith}
 use Rattle.std.specs.Cmp.{IsStrictWeakOrder}
-use Rattle.std.proofs.lemmas.Bool.{both_ways, cases_lt, cases_eq}
+use Rattle.std.proofs.lemmas.Bool.{both_ways, cases_lt}
 use Rattle.search.specs.Sought.{Sought, Leads, Passes}
 
 module _ (allows : ℕ → Bool) (beats : ℕ → ℕ → Bool) where

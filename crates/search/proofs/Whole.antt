@@ -1,6 +1,5 @@
 -- From all numbers below 2 ^ n to all choices whatever: every choice that is allowed is one of the numbers.
 use Rattle.std.proofs.Common.{◌≡◌, ℕ, ◌^◌, ◌<◌, Bool, true, false, List, length, sym, refl, ap, ◌∙◌}
-use Rattle.std.proofs.lemmas.Bool.{both_ways}
 use Rattle.choices.specs.Choice.{Choice}
 use Rattle.choices.specs.Numbered.{choice_of}
 use Rattle.choices.proofs.Numbers.{numbered}

@@ -3,7 +3,7 @@
 --   Sought     the best of all candidates below n, or that none of them is allowed
 --   Passes     a candidate is of no use: it isn't allowed, or doesn't beat the best so far
 --   Behind     the best so far, if there is one, lies below n
-use Rattle.std.specs.Prelude.{◌≡◌, ℕ, ◌<◌, ◌≤◌, Bool, true, false, Some, None, Option}
+use Rattle.std.specs.Prelude.{◌≡◌, ℕ, ◌<◌, Bool, true, false, Some, None, Option}
 
 pub record Leads (allows : ℕ → Bool) (beats : ℕ → ℕ → Bool) (n b : ℕ) : Type 0 where
   pub below : b < n

@@ -1,13 +1,12 @@
 -- A season bag by bag: the ring stays in order, and what is told of it adds up.
-use Rattle.std.proofs.Common.{◌≡◌, ℕ, zero, suc, ◌+◌, ◌*◌, ◌<◌, ◌≤◌, Bool, true, false, cond, List, [], ◌∷◌, ◌++◌, length, get_or, None, MatchBool, sym, refl, ap, ◌∙◌, add-mul, add-one, arith}
-use Rattle.choices.specs.Choice.{Choice, fits, marked, emptied}
+use Rattle.std.proofs.Common.{◌≡◌, ℕ, zero, suc, ◌+◌, ◌*◌, ◌<◌, ◌≤◌, Bool, true, false, List, [], ◌∷◌, length, get_or, None, MatchBool, sym, refl, ap, ◌∙◌, add-mul, add-one, arith}
+use Rattle.choices.specs.Choice.{Choice, fits, emptied}
 use Rattle.choices.specs.declared.rule.Rule.{Rule}
 use Rattle.choices.proofs.Choices.{fitting}
 use Rattle.order.specs.Order.{NoneOf}
 use Rattle.packing.specs.Entry.{Made}
 use Rattle.packing.specs.Refusals.{Accepted, Ready, first_refusal, rule_in}
 use Rattle.packing.proofs.Refused.{ready, refusals_are_exact}
-use Rattle.promises.specs.Promises.{Young}
 use Rattle.promises.specs.Rows.{Stand, total, Falls, Bags, start, next}
 use Rattle.promises.proofs.Rows.{made_young, made_paired, length_falls, length_marked, bags_weigh_enough, no_pan_waits_too_long, rows_lose_nothing}
 use Rattle.seasons.specs.Handfuls.{hands, place, empties, filled}

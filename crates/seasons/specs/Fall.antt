@@ -1,7 +1,7 @@
 -- What a handful that falls into a pan leaves, and when it is turned away. Assumes nothing: these are definitions.
 --   fall_refusal   3 at the pan for more than 1,000,000 grams; then 4 at its line for a pan that is not there or not empty
 --   Fell           what each answer says: the grams lie in the pan, or nothing changed
-use Rattle.std.specs.Prelude.{◌≡◌, ℕ, Bool, cond, ◌&&◌, List, length, Some, None, Ok, Err, Option, Result, ◌==◌, nat_le, nat_lt, slice_index, slice_set}
+use Rattle.std.specs.Prelude.{◌≡◌, ℕ, cond, ◌&&◌, List, length, Some, None, Ok, Err, Option, Result, ◌==◌, nat_le, nat_lt, slice_index, slice_set}
 use Rattle.packing.specs.declared.refusal.Refusal.{Refusal}
 use Rattle.packing.specs.declared.refusal.Refusal.TheVariants.{Number, Line}
 

@@ -6,7 +6,7 @@
 --                    weights and the ages; then 4 at its line for more than 1,000,000 bags
 --   Seasoned         what each answer says
 --   Kept             what is promised of every season
-use Rattle.std.specs.Prelude.{◌≡◌, ℕ, suc, ◌+◌, ◌*◌, ◌<◌, ◌≤◌, Bool, true, false, cond, List, length, Some, None, Ok, Err, MatchBool, Option, Result, nat_le}
+use Rattle.std.specs.Prelude.{◌≡◌, ℕ, suc, ◌+◌, ◌*◌, ◌<◌, ◌≤◌, cond, List, length, Some, None, Ok, Err, MatchBool, Option, Result, nat_le}
 use Rattle.std.specs.Option.{option_map}
 use Rattle.choices.specs.Choice.{fits}
 use Rattle.choices.specs.declared.rule.Rule.{Rule}

@@ -1,6 +1,5 @@
 -- Lists of as many numbers as a word takes.
-use Rattle.std.proofs.Common.{◌≡◌, ℕ, List, [], ◌∷◌, length, refl, ap, arith}
-use Rattle.std.proofs.lemmas.List.{nil_from_length}
+use Rattle.std.proofs.Common.{◌≡◌, ℕ, List, [], ◌∷◌, length, arith}
 
 -- what is so of each list of one number, and of two
 pub by_one : (P : List ℕ → Type 0) → ((n : ℕ) → P (n ∷ [])) → (ns : List ℕ) → length ns ≡ 1 → P ns

@@ -3,7 +3,6 @@ use Rattle.std.proofs.Common.{◌≡◌, ℕ, ◌<◌, List, [], ◌∷◌, ◌+
 use Rattle.std.proofs.lemmas.List.{map_push, nil_from_length}
 use Rattle.text.specs.Scanning.{capped, Begins}
 use Rattle.text.specs.Written.{numeral, spaced}
-use Rattle.text.proofs.Numerals.{numeral_some}
 use Rattle.text.proofs.Spacing.{spaced_append}
 
 -- kept is what is kept of the numbers before rest, and no numbers are written so but with rest at their end

@@ -1,5 +1,5 @@
 -- One pan more of those that a number opens.
-use Rattle.std.proofs.Common.{◌≡◌, ℕ, ◌+◌, ◌/◌, ◌%◌, ◌^◌, cond, eqb, List, [], ◌∷◌, ◌++◌, sym, refl, ap, ◌∙◌, append-nil, add-one}
+use Rattle.std.proofs.Common.{◌≡◌, ℕ, ◌+◌, ◌/◌, ◌%◌, ◌^◌, cond, eqb, [], ◌∷◌, ◌++◌, sym, ap, ◌∙◌, append-nil, add-one}
 use Rattle.std.proofs.lemmas.Bool.{cond-true, cond-false, eq-eqb, ne_eqb}
 use Rattle.text.specs.Replies.{pans_below}
 use Rattle.text.specs.Written.{spaced}

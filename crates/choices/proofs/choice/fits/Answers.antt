@@ -1,5 +1,5 @@
 -- What is left of the proof that the test of a choice is the rule's.
-use Rattle.std.proofs.Common.{length, ◌∙◌}
+use Rattle.std.proofs.Common.{length}
 use Rattle.choices.specs.Numbered.{choice_of}
 use Rattle.choices.proofs.Choices.{fits_is}
 use Rattle.choices.proofs.Numbers.{length_choice_of}

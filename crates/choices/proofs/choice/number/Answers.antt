@@ -1,5 +1,5 @@
 -- What is left of the proof of the number that is answered.
-use Rattle.std.proofs.Common.{◌≡◌, ◌+◌, ◌*◌, ◌/◌, ◌%◌, ◌^◌, sym, ap, ◌∙◌, arith}
+use Rattle.std.proofs.Common.{arith}
 use Rattle.choices.proofs.Numbers.{number_room, number_more}
 use Rattle.choices.proofs.choice.number.Goals as goal
 

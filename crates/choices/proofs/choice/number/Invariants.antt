@@ -1,5 +1,5 @@
 -- What the number's loop keeps: the pans seen so far as a number, which stays in range.
-use Rattle.std.proofs.Common.{◌≡◌, ◌^◌, ◌<◌}
+use Rattle.std.proofs.Common.{◌≡◌}
 use Rattle.choices.specs.Numbered.{choice_of, number_of}
 use Rattle.choices.proofs.choice.number.Given as goal
 

@@ -1,5 +1,5 @@
 -- What is left of the proof that each command is obeyed.
-use Rattle.std.proofs.Common.{◌≡◌, length, vec_items, sym, refl, ap, ◌∙◌}
+use Rattle.std.proofs.Common.{length, vec_items, sym, refl, ap, ◌∙◌}
 use Rattle.std.specs.Vec.{with_items}
 use Rattle.std.proofs.lemmas.List.{with_items_is}
 use Rattle.desk.proofs.Lent.{bagged_at, played_at, fell_at}

@@ -1,5 +1,5 @@
 -- What is left of the proof of the pans' ways.
-use Rattle.std.proofs.Common.{◌≡◌, ◌≤◌, length, take, ◌∙◌, arith}
+use Rattle.std.proofs.Common.{◌≡◌, length, take, ◌∙◌, arith}
 use Rattle.std.proofs.lemmas.List.{length-set, take_all}
 use Rattle.halves.proofs.Answered.{ways_more}
 use Rattle.halves.proofs.answer.ways.Goals as goal

@@ -1,5 +1,5 @@
 -- What is left of the proof that the entries are the half's.
-use Rattle.std.proofs.Common.{◌≡◌, ◌+◌, ◌-◌, ◌^◌, ◌≤◌, length, arith, pow_mono}
+use Rattle.std.proofs.Common.{◌+◌, ◌-◌, ◌^◌, ◌≤◌, length, arith, pow_mono}
 use Rattle.std.proofs.lemmas.List.{length-set}
 use Rattle.std.proofs.lemmas.Nat.{one_shl, pow_pos}
 use Rattle.halves.proofs.ByPan.{half_last, half_step, half_thin, half_room, half_below, half_first}

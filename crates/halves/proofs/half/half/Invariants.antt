@@ -1,5 +1,5 @@
 -- What the entries are from turn to turn: the places of the choices of the pans from k on.
-use Rattle.std.proofs.Common.{◌+◌, ◌-◌, ◌^◌, length, drop}
+use Rattle.std.proofs.Common.{◌+◌, ◌-◌, ◌^◌, drop}
 use Rattle.halves.specs.Half.{Half}
 use Rattle.halves.proofs.half.half.Given as goal
 

@@ -1,6 +1,5 @@
 -- What is left of the proof that both halves are filled.
-use Rattle.std.proofs.Common.{◌≡◌, ℕ, ◌-◌, ◌/◌, ◌^◌, ◌≤◌, length, take, sym, refl, ap, arith, rules}
-use Rattle.std.proofs.lemmas.List.{places, length-take}
+use Rattle.std.proofs.Common.{◌/◌, length, sym, refl, arith, rules}
 use Rattle.halves.proofs.Rooms.{filled_both, heavy_take}
 use Rattle.halves.proofs.halves.fill.Goals as goal
 

@@ -1,5 +1,4 @@
 -- What is left of the proof of the next choice.
-use Rattle.std.proofs.Common.{rules}
 use Rattle.halves.proofs.Rooms.{front_rises, back_rises, front_low, back_low, parts_apart, next_some, next_none}
 use Rattle.halves.proofs.halves.next.Goals as goal
 

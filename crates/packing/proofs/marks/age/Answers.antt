@@ -1,5 +1,5 @@
 -- What is left of the proof that pans that stay shut are counted a bag older.
-use Rattle.std.proofs.Common.{◌≡◌, ◌+◌, cond, ◌≢◌, sym, ◌∙◌, arith}
+use Rattle.std.proofs.Common.{◌+◌, cond, ◌≢◌, sym, ◌∙◌, arith}
 use Rattle.std.proofs.lemmas.List.{get_or-set_other}
 use Rattle.std.proofs.lemmas.Bool.Decides.{nat_tests}
 use Rattle.packing.proofs.Marking.{marking_none, marking_more, marking_all}

@@ -1,5 +1,5 @@
 -- What is left of the proof that the opened pans are emptied.
-use Rattle.std.proofs.Common.{◌≡◌, cond, sym, ◌∙◌, arith}
+use Rattle.std.proofs.Common.{cond, sym, ◌∙◌, arith}
 use Rattle.std.proofs.lemmas.Bool.Decides.{nat_tests}
 use Rattle.packing.proofs.Marking.{marking_none, marking_more, marking_all}
 use Rattle.packing.proofs.marks.empty.Goals as goal

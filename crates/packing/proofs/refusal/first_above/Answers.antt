@@ -1,5 +1,5 @@
 -- What is left of the proof of the first number above the limit.
-use Rattle.std.proofs.Common.{◌≡◌, ◌+◌, get_or, drop, sym, ◌∙◌, arith}
+use Rattle.std.proofs.Common.{◌+◌, get_or, drop, sym, ◌∙◌, arith}
 use Rattle.std.proofs.lemmas.List.{at_drop_more, at_drop_all}
 use Rattle.packing.specs.Refusals.{first_above}
 use Rattle.packing.proofs.Refused.{first_above_here, first_above_later}

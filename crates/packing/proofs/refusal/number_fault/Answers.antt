@@ -1,6 +1,5 @@
 -- What is left of the proof of what is wrong with weights and ages.
-use Rattle.std.proofs.Common.{◌≡◌, ℕ, ◌+◌, length, sym, ap, ◌∙◌, arith}
-use Rattle.packing.specs.Refusals.{first_above, or_else}
+use Rattle.std.proofs.Common.{◌≡◌, ◌+◌, length, sym, arith}
 use Rattle.packing.proofs.Refused.{first_above_append}
 use Rattle.packing.proofs.refusal.number_fault.Goals as goal
 

@@ -1,6 +1,6 @@
 -- What is left of the proof of the test of a block.
 use Rattle.std.proofs.Common.{sym, ◌∙◌, arith}
-use Rattle.std.proofs.lemmas.Bool.{not-true, ltb-true}
+use Rattle.std.proofs.lemmas.Bool.{not-true}
 use Rattle.search.proofs.Useless.{heavy, many, empty, light, shut}
 use Rattle.search.proofs.ring.useless.Goals as goal
 use Rattle.search.proofs.ring.useless.Goals.{then-least-most-via-then-least-most, then-least-most-via-else-least-most+then-least-ring, then-least-most-via-else-least-most+else-least-ring+then-not-least}

@@ -1,7 +1,7 @@
 -- What is left of the proof that handfuls fall into the empty pans.
 use Rattle.std.proofs.Common.{◌+◌, ◌%◌, length, get_or, sym, refl, inl, inr, arith}
 use Rattle.std.proofs.lemmas.Nat.{mod_below}
-use Rattle.seasons.proofs.Filling.{Filling, on_is, filling_more, filling_all}
+use Rattle.seasons.proofs.Filling.{on_is, filling_more, filling_all}
 use Rattle.seasons.proofs.handfuls.fill.Goals as goal
 use Rattle.seasons.proofs.handfuls.fill.Goals.{then-w-eq0, else-w-eq0}
 

@@ -1,5 +1,5 @@
 -- The number is written after its blank.
-use Rattle.std.proofs.Common.{◌≡◌, ◌∷◌, sym, ap, ◌∙◌, append-nil, arith}
+use Rattle.std.proofs.Common.{◌∷◌, sym, ap, ◌∙◌, append-nil, arith}
 use Rattle.std.proofs.Output.{has_written_of_eq}
 use Rattle.text.proofs.Numerals.{decimal_is}
 use Rattle.text.proofs.numbers.put_number.Goals as goal

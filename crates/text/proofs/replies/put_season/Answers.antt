@@ -1,5 +1,5 @@
 -- The numbers in decimal, and how the season ended.
-use Rattle.std.proofs.Common.{◌≡◌, cond, [], codes, sym, refl, ap, ◌∙◌, arith}
+use Rattle.std.proofs.Common.{◌≡◌, cond, [], codes, sym, ap, ◌∙◌, arith}
 use Rattle.std.proofs.Output.{has_written_of_eq}
 use Rattle.std.proofs.lemmas.Bool.{cond-true, cond-false}
 use Rattle.text.proofs.Numerals.{decimal_is}

@@ -1,6 +1,5 @@
 -- One digit more each turn.
-use Rattle.std.proofs.Common.{get_or, ap, ◌∙◌, arith}
-use Rattle.std.proofs.lemmas.Bool.Decides.{nat_tests}
+use Rattle.std.proofs.Common.{get_or}
 use Rattle.std.specs.Int.{IsInRange}
 use Rattle.text.proofs.Digits.{more_digits, more_value}
 use Rattle.text.proofs.scanning.figures.Goals as goal

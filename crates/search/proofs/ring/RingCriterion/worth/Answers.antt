@@ -1,7 +1,7 @@
 -- What is left of the proof that what is passed over is of no use.
-use Rattle.std.proofs.Common.{◌≡◌, ℕ, ◌+◌, ◌-◌, ◌*◌, ◌%◌, ◌^◌, ◌≤◌, length, sym, refl, ◌∙◌, arith}
+use Rattle.std.proofs.Common.{◌≡◌, ◌*◌, ◌%◌, ◌^◌, ◌≤◌, length, refl, ◌∙◌, arith}
 use lib.Count.{count_trailing_zeros}
-use Rattle.std.proofs.lemmas.Nat.{one_shl, pow_pos}
+use Rattle.std.proofs.lemmas.Nat.{one_shl}
 use Rattle.choices.proofs.Blocks.{zeros_multiple, block_within}
 use Rattle.search.proofs.Useless.{pass_none, pass_some, between}
 use Rattle.search.proofs.ring.RingCriterion.worth.Goals as goal
