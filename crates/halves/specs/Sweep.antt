@@ -3,7 +3,7 @@
 --   Few          two entries open together at most so many pans
 --   Apart        the counts of two entries, one of each half, add up in their sum
 --   Pair         an entry of each half that are right together, with the sum x, from `from` on
---   LeastSum    the least sum from `from` on, below `to`, of an entry of each half that are right together; or `to`
+--   LeastSum     the least sum from `from` on, below `to`, of an entry of each half that are right together; or `to`
 use Rattle.std.specs.Prelude.{◌≡◌, ℕ, ◌+◌, ◌<◌, ◌≤◌, List, length, slice_index, slice_index_or}
 use Rattle.halves.specs.Place.{pans_in}
 use Rattle.halves.specs.declared.sweep.Band.{Band}

@@ -2,8 +2,8 @@
 --   then_by      an order by a number first, by the next order where the numbers are equal
 --   first_more   the first pan that is not the same in both is opened in the first
 --   better       lighter; of equals with fewer pans; of these the one that opens the first pan that differs
---   BestOf      a choice that is allowed, and than which no allowed choice is better
---   NoneOf      no choice whatever is allowed
+--   BestOf       a choice that is allowed, and than which no allowed choice is better
+--   NoneOf       no choice whatever is allowed
 --   Found        what a search answers: the best, by its number and its weight, or that none is allowed
 use Rattle.std.specs.Prelude.{◌≡◌, ℕ, Bool, true, false, ◌&&◌, ◌||◌, List, [], ◌∷◌, Some, None, Option, ◌==◌, nat_lt}
 use Rattle.choices.specs.Choice.{Choice, weight_of, opened}

@@ -1,6 +1,6 @@
 -- What a look over a ring has to tell of its table. Assumes nothing: these are definitions.
 --   Surveyed       what the pans are, as one look over them counts and weighs them
---   LeavesABag   the pans that have to be opened are not empty, not too many and not too heavy
+--   LeavesABag     the pans that have to be opened are not empty, not too many and not too heavy
 --   Laid           how the table lies in a room of so many bytes: its span, that all rows fit, and where the last one starts
 use Rattle.std.specs.Prelude.{◌≡◌, ℕ, ◌+◌, ◌*◌, ◌<◌, ◌≤◌, true, List}
 use Rattle.choices.specs.declared.rule.Rule.{Rule}

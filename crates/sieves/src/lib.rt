@@ -1,0 +1,10 @@
+// What is not worth keeping is sieved out of a part of the pans.
+#![tactic(auto)]
+
+mod bounds;
+mod most;
+mod sieve;
+mod worth;
+
+pub use bounds::Bounds;
+pub use sieve::thin;
