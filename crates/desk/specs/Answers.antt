@@ -4,12 +4,13 @@
 --   Bagged, PlayedSo, FellSo   a bag, a season or a handful was asked for
 use Rattle.std.specs.Prelude.{◌≡◌, ℕ, List, Some, None, Ok, Err, Option, Result, slice_set}
 use Rattle.packing.specs.Entry.{Answered}
-use Rattle.packing.specs.Refusals.{refusal_number, refusal_place, room_refusal, rule_in}
+use Rattle.answers.specs.Refusals.{refusal_number, refusal_place}
+use Rattle.packing.specs.Refusals.{room_refusal, rule_in}
 use Rattle.packing.specs.declared.entry.Done.{Done}
 use Rattle.packing.specs.declared.entry.Done.TheVariants.{Bag as MadeBag, None as MadeNone, Refused as MadeRefused}
-use Rattle.packing.specs.declared.refusal.Refusal.{Refusal}
+use Rattle.answers.specs.declared.refusal.Refusal.{Refusal}
 use Rattle.seasons.specs.Season.{season_refusal, Seasoned, Keeps}
-use Rattle.seasons.specs.declared.played.Played.{Played}
+use Rattle.answers.specs.declared.played.Played.{Played}
 use Rattle.text.specs.declared.replies.Reply.{Reply}
 use Rattle.text.specs.declared.replies.Reply.TheVariants.{Open, None as NoChoice, Refused, Season}
 

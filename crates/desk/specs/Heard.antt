@@ -3,7 +3,7 @@
 --   Unread     a line that is how no command is written: it is turned away at its number, and nothing changes
 --   Obeyed     a line that is how a command is written: the command is obeyed
 use Rattle.std.specs.Prelude.{◌≡◌, ℕ, ◌⊎◌, List, Some, None, Ok, Err, Option, Result}
-use Rattle.packing.specs.declared.refusal.Refusal.TheVariants.{Line}
+use Rattle.answers.specs.declared.refusal.Refusal.TheVariants.{Line}
 use Rattle.text.specs.Reading.{Passed, Says, Unwritten}
 use Rattle.text.specs.declared.commands.Command.{Command}
 use Rattle.text.specs.declared.commands.Fault.{Fault}

@@ -1,8 +1,8 @@
 -- A season that was turned away is told by its refusal's number.
 use Rattle.std.proofs.Common.{◌≡◌, ℕ, List, Some, None, Err, Option, refl, ap, ◌∙◌}
 use Rattle.choices.specs.declared.rule.Rule.{Rule}
-use Rattle.packing.specs.Refusals.{refusal_number}
-use Rattle.packing.specs.declared.refusal.Refusal.{Refusal}
+use Rattle.answers.specs.Refusals.{refusal_number}
+use Rattle.answers.specs.declared.refusal.Refusal.{Refusal}
 use Rattle.seasons.specs.Season.{Seasoned}
 use Rattle.exports.specs.Exported.{SeasonTold}
 

@@ -9,11 +9,12 @@ use Rattle.choices.specs.declared.rule.Rule.{Rule}
 use Rattle.order.specs.Order.{Found}
 use Rattle.order.specs.declared.bag.Bag.{Bag}
 use Rattle.packing.specs.Entry.{Same}
-use Rattle.packing.specs.Refusals.{or_else, first_refusal, refusal_number, rule_in}
-use Rattle.packing.specs.declared.refusal.Refusal.{Refusal}
-use Rattle.packing.specs.declared.refusal.Refusal.TheVariants.{Room}
+use Rattle.answers.specs.Refusals.{refusal_number}
+use Rattle.packing.specs.Refusals.{or_else, first_refusal, rule_in}
+use Rattle.answers.specs.declared.refusal.Refusal.{Refusal}
+use Rattle.answers.specs.declared.refusal.Refusal.TheVariants.{Room}
 use Rattle.seasons.specs.Season.{Plays}
-use Rattle.seasons.specs.declared.played.Played.{Played}
+use Rattle.answers.specs.declared.played.Played.{Played}
 use Rattle.table.specs.Pans.{table_bytes}
 use Rattle.exports.specs.declared.told.Told.{Told as Numbers}
 

@@ -15,7 +15,7 @@ use Rattle.packing.specs.Laws.{EntriesAgree, Alike}
 use Rattle.packing.specs.Refusals.{or_else, first_refusal, room_refusal, rule_in}
 use Rattle.packing.specs.declared.entry.Done.{Done}
 use Rattle.packing.specs.declared.entry.Done.TheVariants.{Bag as Bagged, None as Nothing, Refused}
-use Rattle.packing.specs.declared.refusal.Refusal.{Refusal}
+use Rattle.answers.specs.declared.refusal.Refusal.{Refusal}
 
 pub made_by :
     {r : Rule} {ws as' ws₁ as₁ : List ℕ} {b : Bag} → BestBag (fits r ws as') ws b → length as' ≡ length ws →

@@ -3,7 +3,7 @@ use Rattle.std.proofs.Common.{◌≡◌, ℕ, zero, suc, ◌+◌, ◌<◌, ◌�
 use Rattle.std.specs.Option.{option_map}
 use Rattle.std.proofs.lemmas.Bool.{leb-true, eqb-true, eq-eqb, and_parts, lt-leb, le-leb}
 use Rattle.packing.specs.Laws.{RefusalsAreExact}
-use Rattle.packing.specs.declared.refusal.Refusal.TheVariants.{Rule as RuleRefused, Pans, Number}
+use Rattle.answers.specs.declared.refusal.Refusal.TheVariants.{Rule as RuleRefused, Pans, Number}
 use Rattle.packing.specs.Refusals.{Accepted, Ready, rule_in, or_else, first_above, rule_fault, pans_fault, first_refusal}
 
 pub first_above_append : (m i : ℕ) (xs ys : List ℕ) → first_above m i (xs ++ ys) ≡ or_else (first_above m i xs) (first_above m (i + length xs) ys)

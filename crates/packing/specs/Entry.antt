@@ -8,10 +8,10 @@ use Rattle.choices.specs.Numbered.{number_of}
 use Rattle.choices.specs.declared.rule.Rule.{Rule}
 use Rattle.order.specs.Order.{BestOf, NoneOf}
 use Rattle.order.specs.declared.bag.Bag.{Bag}
-use Rattle.packing.specs.Refusals.{refusal_number}
+use Rattle.answers.specs.Refusals.{refusal_number}
 use Rattle.packing.specs.declared.entry.Done.{Done}
 use Rattle.packing.specs.declared.entry.Done.TheVariants.{Bag as Bagged, None as Nothing, Refused}
-use Rattle.packing.specs.declared.refusal.Refusal.{Refusal}
+use Rattle.answers.specs.declared.refusal.Refusal.{Refusal}
 
 pub record Made (r : Rule) (ws as' : List ℕ) (p w : ℕ) (ws₁ as₁ : List ℕ) : Type 0 where
   pub choice : Choice

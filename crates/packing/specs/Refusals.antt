@@ -11,22 +11,8 @@ use Rattle.std.specs.Prelude.{◌≡◌, ℕ, ◌+◌, ◌≤◌, min, cond, ◌
 use Rattle.std.specs.Option.{option_map}
 use Rattle.choices.specs.declared.rule.Rule.{Rule}
 use Rattle.halves.specs.Next.{room_for}
-use Rattle.packing.specs.declared.refusal.Refusal.{Refusal}
-use Rattle.packing.specs.declared.refusal.Refusal.TheVariants.{Rule as RuleRefused, Pans, Number, Line, Room}
-
-abbrev pub refusal_number : Refusal → ℕ
-refusal_number (RuleRefused p) = 1
-refusal_number (Pans p) = 2
-refusal_number (Number p) = 3
-refusal_number (Line p) = 4
-refusal_number (Room p) = 5
-
-abbrev pub refusal_place : Refusal → ℕ
-refusal_place (RuleRefused p) = p
-refusal_place (Pans p) = p
-refusal_place (Number p) = p
-refusal_place (Line p) = p
-refusal_place (Room p) = p
+use Rattle.answers.specs.declared.refusal.Refusal.{Refusal}
+use Rattle.answers.specs.declared.refusal.Refusal.TheVariants.{Rule as RuleRefused, Pans, Number, Line, Room}
 
 -- the first of two, where there is one
 abbrev pub or_else : {X : Type 0} → Option X → Option X → Option X

@@ -10,4 +10,5 @@ mod refusal;
 pub use entry::{Done, bag, bag_in, rule_in};
 pub use laws::{entries_agree, refusals_are_exact};
 pub use one_bag::pack;
-pub use refusal::{Refusal, first_above, turned_away, turned_away_in};
+pub use answers::Refusal;
+pub use refusal::{first_above, turned_away, turned_away_in};

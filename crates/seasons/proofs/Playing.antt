@@ -11,7 +11,7 @@ use Rattle.promises.specs.Rows.{Stand, total, Falls, Bags, start, next}
 use Rattle.promises.proofs.Rows.{made_young, made_paired, length_falls, length_marked, bags_weigh_enough, no_pan_waits_too_long, rows_lose_nothing}
 use Rattle.seasons.specs.Handfuls.{hands, place, empties, filled}
 use Rattle.seasons.specs.Season.{stand, Season, start as begins, next as goes, Plays, Kept}
-use Rattle.seasons.specs.declared.played.Played.{Played}
+use Rattle.answers.specs.declared.played.Played.{Played}
 use Rattle.seasons.proofs.Filling.{falls_filled, length_hands, hands_small, filled_small, hands_add, place_add, total_append}
 
 -- handfuls of a list fall into all empty pans

@@ -2,8 +2,8 @@
 --   fall_refusal   3 at the pan for more than 1,000,000 grams; then 4 at its line for a pan that is not there or not empty
 --   Fell           what each answer says: the grams lie in the pan, or nothing changed
 use Rattle.std.specs.Prelude.{◌≡◌, ℕ, cond, ◌&&◌, List, length, Some, None, Ok, Err, Option, Result, ◌==◌, nat_le, nat_lt, slice_index, slice_set}
-use Rattle.packing.specs.declared.refusal.Refusal.{Refusal}
-use Rattle.packing.specs.declared.refusal.Refusal.TheVariants.{Number, Line}
+use Rattle.answers.specs.declared.refusal.Refusal.{Refusal}
+use Rattle.answers.specs.declared.refusal.Refusal.TheVariants.{Number, Line}
 
 abbrev pub fall_refusal : List ℕ → (pan grams line : ℕ) → Option Refusal
 fall_refusal ws p w l = cond (nat_le w 1000000) (cond (nat_lt p (length ws) && slice_index ws p == 0) None (Some (Line l))) (Some (Number p))

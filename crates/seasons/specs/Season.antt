@@ -13,12 +13,12 @@ use Rattle.choices.specs.declared.rule.Rule.{Rule}
 use Rattle.order.specs.Order.{NoneOf}
 use Rattle.packing.specs.Entry.{Made, Same}
 use Rattle.packing.specs.Refusals.{or_else, first_above, first_refusal, rule_in}
-use Rattle.packing.specs.declared.refusal.Refusal.{Refusal}
-use Rattle.packing.specs.declared.refusal.Refusal.TheVariants.{Number, Line}
+use Rattle.answers.specs.declared.refusal.Refusal.{Refusal}
+use Rattle.answers.specs.declared.refusal.Refusal.TheVariants.{Number, Line}
 use Rattle.promises.specs.Promises.{Young}
 use Rattle.promises.specs.Rows.{Stand, total}
 use Rattle.seasons.specs.Handfuls.{hands, place, empties, filled}
-use Rattle.seasons.specs.declared.played.Played.{Played}
+use Rattle.answers.specs.declared.played.Played.{Played}
 
 abbrev pub stand : (weights ages : List ℕ) → Stand
 stand ws as' = record { weights = ws; ages = as' }

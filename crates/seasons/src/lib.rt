@@ -3,9 +3,8 @@
 
 mod falling;
 mod handfuls;
-mod played;
 mod seasons;
 
 pub use falling::fall;
-pub use played::Played;
+pub use answers::Played;
 pub use seasons::season;

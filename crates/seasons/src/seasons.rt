@@ -4,7 +4,7 @@ ghost use Rattle.packing.specs.Refusals.{Accepted, Ready, rule_in};
 ghost use Rattle.seasons.specs.Season.{Keeps, Plays, Seasoned, season_refusal};
 
 use crate::handfuls::refill;
-use crate::played::Played;
+use answers::Played;
 use choices::Rule;
 use packing::{Refusal, first_above, pack, rule_in, turned_away};
 

@@ -1,6 +1,6 @@
 -- What is left of the proof of the answer to a bag: what is turned away.
 use Rattle.std.proofs.Common.{sym, refl}
-use Rattle.packing.specs.Refusals.{refusal_number}
+use Rattle.answers.specs.Refusals.{refusal_number}
 use Rattle.packing.specs.declared.entry.Done.TheVariants.{Refused}
 use Rattle.desk.proofs.answers.bag_reply.Goals as goal
 
