@@ -1,5 +1,5 @@
 -- One look over the pans, pan by pan: what is seen so far and what is left make up the whole.
-use Rattle.std.proofs.Common.{◌≡◌, ℕ, zero, suc, ◌+◌, ◌-◌, ◌*◌, ◌/◌, ◌^◌, ◌≤◌, Bool, true, false, cond, not, ◌&&◌, ◌||◌, ltb, leb, List, [], ◌∷◌, length, get_or, sym, ap, ◌∙◌, arith}
+use Rattle.std.proofs.Common.{◌≡◌, ℕ, zero, suc, ◌+◌, ◌-◌, ◌*◌, ◌/◌, ◌^◌, ◌≤◌, Bool, true, false, cond, not, ◌&&◌, ◌||◌, ltb, leb, List, [], ◌∷◌, length, get_or, sym, ap, ◌∙◌, add-one, arith}
 use mathlib.Core.Bool.{and-true, and_assoc}
 use Rattle.choices.specs.Choice.{Choice, bit, weight_of, opened, none_empty, keeps_old}
 use Rattle.choices.specs.Numbered.{choice_of, odd}
@@ -22,9 +22,6 @@ pub record Looking (old : ℕ) (ws as'' : List ℕ) (cs : Choice) (ws' as' : Lis
 part_le : (b : Bool) (w : ℕ) → cond b w 0 ≤ w
 part_le true w = omega arith
 part_le false w = omega arith
-
-less : (n : ℕ) → suc n - 1 ≡ n
-less n = omega arith
 
 -- one pan more is seen
 pub looking_more :
@@ -51,27 +48,26 @@ looking_more old ws as'' cs w a ws' as' n m t u h weighs counts fills waits =
 -- no pan is left
 pub looking_all :
     {old : ℕ} {ws as'' : List ℕ} {cs : Choice} {ws' as' : List ℕ} {n m : ℕ} {t : Tally} →
-    Looking old ws as'' cs ws' as' n m t → ws' ≡ [] → as' ≡ [] → Tallied ws as'' old cs t
-looking_all {old = old} {ws = ws} {as'' = as''} {cs = cs} {m = m} {t = t} h e f = ends _ _ _ e f h
+    Looking old ws as'' cs ws' as' n m t → n ≡ 0 → Tallied ws as'' old cs t
+looking_all {old = old} {ws = ws} {as'' = as''} {cs = cs} {m = m} {t = t} h e = ends _ _ _ e h
   where
-    ends : (ws' as' : List ℕ) (n : ℕ) → ws' ≡ [] → as' ≡ [] → Looking old ws as'' cs ws' as' n m t → Tallied ws as'' old cs t
-    ends [] [] zero e f h = record { weighs = omega (arith, h.weighs); counts = omega (arith, h.counts); fills = sym (and-true t.filled) ∙ h.fills; waits = sym (and-true t.waited) ∙ h.waits }
-    ends [] [] (suc n) e f h = absurd (omega (arith, h.left))
-    ends [] (a ∷ as') n e f h = absurd (omega (arith, h.paired))
-    ends (w ∷ ws') as' n e f h = absurd (omega (arith, ap length e))
+    ends : (ws' as' : List ℕ) (n : ℕ) → n ≡ 0 → Looking old ws as'' cs ws' as' n m t → Tallied ws as'' old cs t
+    ends [] [] zero e h = record { weighs = omega (arith, h.weighs); counts = omega (arith, h.counts); fills = sym (and-true t.filled) ∙ h.fills; waits = sym (and-true t.waited) ∙ h.waits }
+    ends [] (a ∷ as') zero e h = absurd (omega (arith, h.paired))
+    ends (w ∷ ws') as' zero e h = absurd (omega (arith, h.left))
+    ends ws' as' (suc n) e h = absurd (omega (arith, e))
 
--- the same, where the pan is the first of what is left
+-- one pan more, the first of what is left, in the place behind which the others stand
 pub looking_next :
-    {old : ℕ} {ws as'' : List ℕ} {cs : Choice} {w a : ℕ} {ws₁ as₁ ws' as' : List ℕ} {n m : ℕ} {t u : Tally} →
-    Looking old ws as'' cs ws₁ as₁ n m t → ws₁ ≡ w ∷ ws' → as₁ ≡ a ∷ as' →
-    u.weight ≡ t.weight + cond (odd (m / 2 ^ (n - 1))) w 0 →
-    u.pans ≡ t.pans + bit (odd (m / 2 ^ (n - 1))) →
-    u.filled ≡ (t.filled && (not (odd (m / 2 ^ (n - 1))) || leb 1 w)) →
-    u.waited ≡ (t.waited && (odd (m / 2 ^ (n - 1)) || ltb a old)) →
-    Looking old ws as'' cs ws' as' (n - 1) m u
-looking_next {n = zero} h e f weighs counts fills waits = absurd (omega (arith, h.left, ap length e))
-looking_next {n = suc n} h e f weighs counts fills waits =
-    rw (less n) (looking_more _ _ _ _ _ _ _ _ n _ _ _ (rw (e, f) at h) (rw (less n) at weighs) (rw (less n) at counts) (rw (less n) at fills) (rw (less n) at waits))
+    {old : ℕ} {ws as'' : List ℕ} {cs : Choice} {w a : ℕ} {ws₁ as₁ ws' as' : List ℕ} {n k p m : ℕ} {t u : Tally} →
+    Looking old ws as'' cs ws₁ as₁ n m t → ws₁ ≡ w ∷ ws' → as₁ ≡ a ∷ as' → n ≡ k + 1 → p ≡ k →
+    u.weight ≡ t.weight + cond (odd (m / 2 ^ p)) w 0 →
+    u.pans ≡ t.pans + bit (odd (m / 2 ^ p)) →
+    u.filled ≡ (t.filled && (not (odd (m / 2 ^ p)) || leb 1 w)) →
+    u.waited ≡ (t.waited && (odd (m / 2 ^ p) || ltb a old)) →
+    Looking old ws as'' cs ws' as' k m u
+looking_next {k = k} h e f g p weighs counts fills waits =
+    looking_more _ _ _ _ _ _ _ _ _ _ _ _ (rw (e, f, g ∙ add-one k) at h) (rw p at weighs) (rw p at counts) (rw p at fills) (rw p at waits)
 
 -- what lies in the next pan, and the tally with it, stay in range
 pub looking_room :

@@ -51,10 +51,9 @@ impl Tally {
 pub fn look(ring: Ring, choice: u32) -> Tally
     ensures { Tallied ring.entry.weights.now ring.entry.ages.now ring.entry.rule.age (choice_of (length ring.entry.weights.now) choice) result }
 {
+    let places = (0..ring.weights.len()).rev();
     let mut seen = Tally::NOTHING;
-    let mut place = ring.weights.len();
-    for (w, a) in ring.weights.iter().zip(ring.ages) {
-        place -= 1;
+    for ((w, a), place) in ring.weights.iter().zip(ring.ages).zip(places) {
         seen = seen.with(*w, *a < ring.rule.age, (choice >> place) % 2 == 1);
     }
     seen

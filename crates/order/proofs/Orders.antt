@@ -1,6 +1,7 @@
 -- The order of choices is an order by three numbers, and what follows from that.
-use Rattle.std.proofs.Common.{◌≡◌, ℕ, ◌%◌, ◌^◌, Bool, true, false, ltb, ◌⊎◌, List, [], ◌∷◌, length, sym, refl, ap, ◌∙◌, ap₂, inl, inr, arith}
+use Rattle.std.proofs.Common.{◌≡◌, ℕ, ◌%◌, ◌^◌, Bool, true, false, cond, ◌&&◌, ◌||◌, eqb, ltb, Some, Option, Ordering, Less, Equal, Greater, ◌⊎◌, List, [], ◌∷◌, length, sym, refl, ap, ◌∙◌, ap₂, inl, inr, arith}
 use Rattle.std.specs.Cmp.{IsStrictWeakOrder}
+use Rattle.std.specs.Ordering.{is_lt, is_some_and, nat_cmp, partial_ordering_then}
 use Rattle.std.proofs.lemmas.List.MinMax.{IsStrictWeakOrder-by_number, IsStrictWeakOrder-flip}
 use Rattle.std.proofs.lemmas.Bool.Decides.{nat_tests}
 use Rattle.std.proofs.lemmas.Bool.{both_ways}
@@ -90,3 +91,24 @@ pub better_numbered :
     ≡ then_by (λ m. weight_of ws (choice_of n m)) (then_by (λ m. opened (choice_of n m)) (λ x y. ltb (y % 2 ^ n) (x % 2 ^ n))) a b
 better_numbered ws n a b =
     better_is ws (choice_of n a) (choice_of n b) (length_choice_of n a ∙ sym (length_choice_of n b)) ∙ rw (code_choice_of n a, code_choice_of n b)
+
+-- a comparison number by number, as a derive writes it, and the order by a number first
+pub lt_then : (x y : ℕ) (o : Option Ordering) → is_some_and is_lt (partial_ordering_then (Some (nat_cmp x y)) o) ≡ (ltb x y || (eqb x y && is_some_and is_lt o))
+lt_then x y o = at (ltb x y) (eqb x y)
+  where
+    at : (b d : Bool) → is_some_and is_lt (partial_ordering_then (Some (cond b Less (cond d Equal Greater))) o) ≡ (b || (d && is_some_and is_lt o))
+    at true d = refl
+    at false true = refl
+    at false false = refl
+
+-- the same by three numbers
+pub lt_by_three :
+    (v w p q s t : ℕ) →
+    is_some_and is_lt (partial_ordering_then (Some (nat_cmp v w)) (partial_ordering_then (Some (nat_cmp p q)) (Some (nat_cmp s t))))
+    ≡ (ltb v w || (eqb v w && (ltb p q || (eqb p q && ltb s t))))
+lt_by_three v w p q s t = lt_then v w _ ∙ ap (λ (b : Bool). ltb v w || (eqb v w && b)) (lt_then p q _ ∙ ap (λ (b : Bool). ltb p q || (eqb p q && b)) (last (ltb s t) (eqb s t)))
+  where
+    last : (b d : Bool) → is_some_and is_lt (Some (cond b Less (cond d Equal Greater))) ≡ b
+    last true d = refl
+    last false true = refl
+    last false false = refl
