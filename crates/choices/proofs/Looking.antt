@@ -1,5 +1,5 @@
 -- One look over the pans, pan by pan: what is seen so far and what is left make up the whole.
-use Rattle.std.proofs.Common.{◌≡◌, ℕ, zero, suc, ◌+◌, ◌-◌, ◌*◌, ◌/◌, ◌^◌, ◌≤◌, Bool, true, false, cond, not, ◌&&◌, ◌||◌, ltb, leb, List, [], ◌∷◌, length, get_or, sym, ap, ◌∙◌, add-one, arith}
+use Rattle.std.proofs.Common.{◌≡◌, ℕ, zero, suc, ◌+◌, ◌*◌, ◌/◌, ◌^◌, ◌≤◌, Bool, true, false, cond, not, ◌&&◌, ◌||◌, ltb, leb, List, [], ◌∷◌, length, get_or, sym, ◌∙◌, add-one, arith}
 use mathlib.Core.Bool.{and-true, and_assoc}
 use Rattle.choices.specs.Choice.{Choice, bit, weight_of, opened, none_empty, keeps_old}
 use Rattle.choices.specs.Numbered.{choice_of, odd}

@@ -1,4 +1,5 @@
 -- The definitions that contracts cite.
 pub mod Choice
 pub mod Numbered
+pub mod Ruled
 pub mod Tallied

@@ -5,7 +5,8 @@
 use Rattle.std.specs.Prelude.{◌≡◌, ℕ, List, Some, None, Ok, Err, Option, Result, slice_set}
 use Rattle.packing.specs.Entry.{Answered}
 use Rattle.answers.specs.Refusals.{refusal_number, refusal_place}
-use Rattle.packing.specs.Refusals.{room_refusal, rule_in}
+use Rattle.choices.specs.Ruled.{rule_in}
+use Rattle.packing.specs.Refusals.{room_refusal}
 use Rattle.packing.specs.declared.entry.Done.{Done}
 use Rattle.packing.specs.declared.entry.Done.TheVariants.{Bag as MadeBag, None as MadeNone, Refused as MadeRefused}
 use Rattle.answers.specs.declared.refusal.Refusal.{Refusal}

@@ -10,7 +10,8 @@ use Rattle.order.specs.Order.{Found}
 use Rattle.order.specs.declared.bag.Bag.{Bag}
 use Rattle.packing.specs.Entry.{Same}
 use Rattle.answers.specs.Refusals.{refusal_number}
-use Rattle.packing.specs.Refusals.{or_else, first_refusal, rule_in}
+use Rattle.choices.specs.Ruled.{rule_in}
+use Rattle.packing.specs.Refusals.{or_else, first_refusal}
 use Rattle.answers.specs.declared.refusal.Refusal.{Refusal}
 use Rattle.answers.specs.declared.refusal.Refusal.TheVariants.{Room}
 use Rattle.seasons.specs.Season.{Plays}

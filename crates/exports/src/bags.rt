@@ -4,7 +4,8 @@ ghost use Rattle.std.specs.Prelude.{◌≡◌, ◌≤◌, length};
 ghost use Rattle.choices.specs.Choice.{fits};
 ghost use Rattle.exports.specs.Exported.{Told as Says, bag_number, table_refusal};
 ghost use Rattle.order.specs.Order.{Found};
-ghost use Rattle.packing.specs.Refusals.{first_refusal, room_refusal, rule_in};
+ghost use Rattle.choices.specs.Ruled.{rule_in};
+ghost use Rattle.packing.specs.Refusals.{first_refusal, room_refusal};
 
 use choices::Ring;
 use order::Bag;

@@ -1,6 +1,6 @@
 // A season played on lent pans, and what it came to in numbers.
 ghost use Rattle.exports.specs.Exported.{SeasonTold};
-ghost use Rattle.packing.specs.Refusals.{rule_in};
+ghost use Rattle.choices.specs.Ruled.{rule_in};
 ghost use Rattle.seasons.specs.Season.{season_refusal};
 
 use crate::told::Told;

@@ -1,8 +1,9 @@
 -- A bag that was found and whose pans were opened is made; and two entries over the same pans answer the same.
-use Rattle.std.proofs.Common.{◌≡◌, ℕ, List, length, Some, None, Option, sym, refl, ap, ◌∙◌, ap₂}
+use Rattle.std.proofs.Common.{◌≡◌, ℕ, List, length, Some, None, Option, Ok, Err, sym, refl, ap, ◌∙◌, ap₂}
 use Rattle.std.proofs.lemmas.Bool.{le-leb, both_ways}
 use Rattle.choices.specs.Choice.{fits, emptied, aged, weight_of}
 use Rattle.choices.specs.Numbered.{choice_from, number_of}
+use Rattle.choices.specs.Ruled.{rule_in}
 use Rattle.choices.specs.declared.rule.Rule.{Rule}
 use Rattle.choices.proofs.Choices.{fitting}
 use Rattle.choices.proofs.Numbers.{choice_from_number}
@@ -10,11 +11,9 @@ use Rattle.halves.specs.Next.{room_for}
 use Rattle.order.specs.Order.{BestBag}
 use Rattle.order.specs.declared.bag.Bag.{Bag}
 use Rattle.order.proofs.Orders.{best_is_one}
-use Rattle.packing.specs.Entry.{Made, Packed, Answered}
+use Rattle.packing.specs.Entry.{Made, Packs, Answer, Answered}
 use Rattle.packing.specs.Laws.{EntriesAgree, Alike}
-use Rattle.packing.specs.Refusals.{or_else, first_refusal, room_refusal, rule_in}
-use Rattle.packing.specs.declared.entry.Done.{Done}
-use Rattle.packing.specs.declared.entry.Done.TheVariants.{Bag as Bagged, None as Nothing, Refused}
+use Rattle.packing.specs.Refusals.{or_else, first_refusal, room_refusal}
 use Rattle.answers.specs.declared.refusal.Refusal.{Refusal}
 
 pub made_by :
@@ -36,31 +35,32 @@ made_by {r} {ws} {as'} {ws₁} {as₁} {b} f paired e g =
 
 -- of the same pans by the same rule there is only one answer
 packed_alike :
-    (r : Rule) (ws as' : List ℕ) (d e : Done) (ws₁ as₁ ws₂ as₂ : List ℕ) →
-    Packed r ws as' d ws₁ as₁ → Packed r ws as' e ws₂ as₂ → Alike d ws₁ as₁ e ws₂ as₂
-packed_alike r ws as' (Bagged p w) (Bagged q v) ws₁ as₁ ws₂ as₂ m k =
+    (r : Rule) (ws as' : List ℕ) (d e : Option Bag) (ws₁ as₁ ws₂ as₂ : List ℕ) →
+    Packs r ws as' d ws₁ as₁ → Packs r ws as' e ws₂ as₂ → Alike (Ok d) ws₁ as₁ (Ok e) ws₂ as₂
+packed_alike r ws as' (Some b) (Some d) ws₁ as₁ ws₂ as₂ m k =
     record {
-      answer = ap₂ Bagged (m.number ∙ ap number_of same ∙ sym k.number) (m.weighs ∙ ap (weight_of ws) same ∙ sym k.weighs);
+      answer = ap₂ (λ p w. Ok (Some (record { pans = p; weight = w }))) (m.number ∙ ap number_of same ∙ sym k.number) (m.weighs ∙ ap (weight_of ws) same ∙ sym k.weighs);
       weights = m.empties ∙ ap (emptied ws) same ∙ sym k.empties;
       ages = m.ages ∙ ap (aged as') same ∙ sym k.ages;
     }
   where
     same : m.choice ≡ k.choice
     same = best_is_one (fits r ws as') ws (length ws) (λ cs h. (fitting r ws as' cs h).whole) m.choice k.choice m.best k.best
-packed_alike r ws as' Nothing Nothing ws₁ as₁ ws₂ as₂ m k =
+packed_alike r ws as' None None ws₁ as₁ ws₂ as₂ m k =
     record { answer = refl; weights = m.1.weights ∙ sym k.1.weights; ages = m.1.ages ∙ sym k.1.ages }
-packed_alike r ws as' (Bagged p w) Nothing ws₁ as₁ ws₂ as₂ m k = absurd (both_ways _ (k.0 m.choice) m.best.allowed)
-packed_alike r ws as' Nothing (Bagged q v) ws₁ as₁ ws₂ as₂ m k = absurd (both_ways _ (m.0 k.choice) k.best.allowed)
-packed_alike r ws as' (Refused n) e ws₁ as₁ ws₂ as₂ m k = absurd m
-packed_alike r ws as' (Bagged p w) (Refused n) ws₁ as₁ ws₂ as₂ m k = absurd k
-packed_alike r ws as' Nothing (Refused n) ws₁ as₁ ws₂ as₂ m k = absurd k
+packed_alike r ws as' (Some b) None ws₁ as₁ ws₂ as₂ m k = absurd (both_ways _ (k.0 m.choice) m.best.allowed)
+packed_alike r ws as' None (Some d) ws₁ as₁ ws₂ as₂ m k = absurd (both_ways _ (m.0 k.choice) k.best.allowed)
 
 answered_alike :
-    (o : Option Refusal) (r : Rule) (ws as' : List ℕ) (d e : Done) (ws₁ as₁ ws₂ as₂ : List ℕ) →
+    (o : Option Refusal) (r : Rule) (ws as' : List ℕ) (d e : Answer) (ws₁ as₁ ws₂ as₂ : List ℕ) →
     Answered o r ws as' d ws₁ as₁ → Answered o r ws as' e ws₂ as₂ → Alike d ws₁ as₁ e ws₂ as₂
-answered_alike None r ws as' d e ws₁ as₁ ws₂ as₂ m k = packed_alike r ws as' d e ws₁ as₁ ws₂ as₂ m k
-answered_alike (Some f) r ws as' d e ws₁ as₁ ws₂ as₂ m k =
-    record { answer = m.0 ∙ sym k.0; weights = m.1.weights ∙ sym k.1.weights; ages = m.1.ages ∙ sym k.1.ages }
+answered_alike None r ws as' (Ok d) (Ok e) ws₁ as₁ ws₂ as₂ m k = packed_alike r ws as' d e ws₁ as₁ ws₂ as₂ m k
+answered_alike None r ws as' (Err f) e ws₁ as₁ ws₂ as₂ m k = absurd m
+answered_alike None r ws as' (Ok d) (Err g) ws₁ as₁ ws₂ as₂ m k = absurd k
+answered_alike (Some f) r ws as' (Err g) (Err h) ws₁ as₁ ws₂ as₂ m k =
+    record { answer = ap Err (m.0 ∙ sym k.0); weights = m.1.weights ∙ sym k.1.weights; ages = m.1.ages ∙ sym k.1.ages }
+answered_alike (Some f) r ws as' (Ok d) e ws₁ as₁ ws₂ as₂ m k = absurd m
+answered_alike (Some f) r ws as' (Err g) (Ok e) ws₁ as₁ ws₂ as₂ m k = absurd k
 
 or_none : {X : Type 0} (o : Option X) → or_else o None ≡ o
 or_none None = refl

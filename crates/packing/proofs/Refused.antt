@@ -1,10 +1,13 @@
 -- Where nothing is turned away everything is in order, and the first number above a limit in two lists.
-use Rattle.std.proofs.Common.{◌≡◌, ℕ, zero, suc, ◌+◌, ◌<◌, ◌≤◌, Bool, true, false, cond, ◌&&◌, eqb, leb, List, [], ◌∷◌, ◌++◌, length, get_or, Some, None, Option, sym, refl, ap, ◌∙◌, arith}
+use Rattle.std.proofs.Common.{◌≡◌, ℕ, zero, suc, ◌+◌, ◌<◌, ◌≤◌, Bool, true, false, cond, ◌&&◌, eqb, leb, List, [], ◌∷◌, ◌++◌, length, get_or, Some, None, MatchOption, Option, Ok, sym, refl, ap, ◌∙◌, arith}
+use Rattle.std.specs.List.{AllWithin, HoldsAt}
 use Rattle.std.specs.Option.{option_map}
 use Rattle.std.proofs.lemmas.Bool.{leb-true, eqb-true, eq-eqb, and_parts, lt-leb, le-leb}
 use Rattle.packing.specs.Laws.{RefusalsAreExact}
 use Rattle.answers.specs.declared.refusal.Refusal.TheVariants.{Rule as RuleRefused, Pans, Number}
-use Rattle.packing.specs.Refusals.{Accepted, Ready, rule_in, or_else, first_above, rule_fault, pans_fault, first_refusal}
+use Rattle.answers.specs.declared.refusal.Refusal.{Refusal}
+use Rattle.packing.specs.Refusals.{Accepted, Ready, or_else, first_above, rule_fault, pans_fault, rule_refusal, pans_refusal, numbers_refusal, first_refusal, passed}
+use Rattle.choices.specs.Ruled.{rule_in}
 
 pub first_above_append : (m i : ℕ) (xs ys : List ℕ) → first_above m i (xs ++ ys) ≡ or_else (first_above m i xs) (first_above m (i + length xs) ys)
 first_above_append m i [] ys = ap (λ (k : ℕ). first_above m k ys) {y = i + 0} (omega arith)
@@ -15,12 +18,17 @@ first_above_append m i (x ∷ xs) ys = at (leb x m) (first_above_append m (i + 1
     at true h = h ∙ ap (λ (k : ℕ). or_else (first_above m (i + 1) xs) (first_above m k ys)) {y = i + suc (length xs)} (omega arith)
     at false h = refl
 
--- the first number is above the limit, or it is not and the rest decides
-pub first_above_here : (m i x : ℕ) (xs : List ℕ) → m < x → first_above m i (x ∷ xs) ≡ Some i
-first_above_here m i x xs h = rw (lt-leb x m h)
-
-pub first_above_later : (m i x : ℕ) (xs : List ℕ) → x ≤ m → first_above m i (x ∷ xs) ≡ first_above m (i + 1) xs
-first_above_later m i x xs h = rw (le-leb x m h)
+-- no number is above the limit, or the first that is stands at a place
+pub first_above_by : (m i : ℕ) (xs : List ℕ) (r : Option ℕ) →
+    MatchOption r (AllWithin (λ x. x ≤ m) xs 0 (length xs)) (λ k. (k < length xs) × HoldsAt (λ x. m < x) xs k × AllWithin (λ x. x ≤ m) xs 0 k) →
+    first_above m i xs ≡ option_map (λ k. i + k) r
+first_above_by m i [] None h = refl
+first_above_by m i [] (Some k) h = absurd (omega (arith, h.0))
+first_above_by m i (x ∷ xs) None h = rw (le-leb x m (h 0 0 (omega arith) (omega arith))) (first_above_by m (i + 1) xs None (λ k d l u. h (suc k) d (omega arith) (omega arith)))
+first_above_by m i (x ∷ xs) (Some zero) h = rw (lt-leb x m (h.1 0)) (ap Some {y = i + 0} (omega arith))
+first_above_by m i (x ∷ xs) (Some (suc k)) h =
+    rw (le-leb x m (h.2 0 0 (omega arith) (omega arith)))
+    (first_above_by m (i + 1) xs (Some k) (omega (arith, h.0), λ d. h.1 d, λ j d l u. h.2 (suc j) d (omega arith) (omega arith)) ∙ ap Some {x = i + 1 + k} (omega arith))
 
 some_none : {X : Type 0} {x : X} → Some x ≡ None → ⊥
 some_none e = let z : ◌≡◌ {A = ℕ} 0 1 = cc in omega arith
@@ -45,10 +53,10 @@ cond_none true o x h = (refl, h)
 cond_none false o x h = absurd (some_none h)
 
 -- the three checks passed
-pub accepted :
-    (rs ws as' : List ℕ) → rule_fault rs ≡ None → pans_fault (length ws) (length as') ≡ None → first_above 1000000 0 (ws ++ as') ≡ None →
+accepted :
+    {rs ws as' : List ℕ} → rule_fault rs ≡ None → pans_fault (length ws) (length as') ≡ None → first_above 1000000 0 (ws ++ as') ≡ None →
     Accepted rs ws as'
-accepted rs ws as' r p n =
+accepted {rs} {ws} {as'} r p n =
     let four = cond_none (eqb (length rs) 4) _ _ r in
     let rule = or_parts (first_above 1000000 0 rs) _ four.1 in
     let pans = cond_none (leb 1 (length ws) && leb (length ws) 24) _ _ p in
@@ -73,9 +81,19 @@ mapped_none : {X Y : Type 0} (f : X → Y) (o : Option X) → option_map f o ≡
 mapped_none f None h = refl
 mapped_none f (Some x) h = absurd (some_none h)
 
+-- what passed has nothing wrong with it, and is what was asked for
+pub passed_as : {X : Type 0} (o : Option Refusal) (x y : X) → Ok y ≡ passed o x → (o ≡ None) × (y ≡ x)
+passed_as None x y e = (refl, cc)
+passed_as (Some f) x y e = absurd (let z : ◌≡◌ {A = ℕ} 0 1 = cc in omega arith)
+
+pub passed_all :
+    {rs ws as' : List ℕ} → rule_refusal rs ≡ None → pans_refusal (length ws) (length as') ≡ None → numbers_refusal (ws ++ as') ≡ None →
+    Accepted rs ws as'
+passed_all r p n = accepted (mapped_none RuleRefused _ r) (mapped_none Pans _ p) (mapped_none Number _ n)
+
 none_below : (m i : ℕ) (xs : List ℕ) → ((k : ℕ) → get_or xs k 0 ≤ m) → first_above m i xs ≡ None
 none_below m i [] h = refl
-none_below m i (x ∷ xs) h = first_above_later m i x xs (h 0) ∙ none_below m (i + 1) xs (λ k. h (suc k))
+none_below m i (x ∷ xs) h = rw (le-leb x m (h 0)) (none_below m (i + 1) xs (λ k. h (suc k)))
 
 pub refusals_are_exact : RefusalsAreExact
 refusals_are_exact rs ws as' = (gives, takes)
@@ -84,7 +102,7 @@ refusals_are_exact rs ws as' = (gives, takes)
     gives h =
         let rule = or_parts (option_map RuleRefused (rule_fault rs)) _ h in
         let rest = or_parts (option_map Pans (pans_fault (length ws) (length as'))) _ rule.1 in
-        accepted rs ws as' (mapped_none RuleRefused _ rule.0) (mapped_none Pans _ rest.0) (mapped_none Number _ rest.1)
+        passed_all rule.0 rest.0 rest.1
 
     takes : Accepted rs ws as' → first_refusal rs ws as' ≡ None
     takes a =

@@ -1,16 +1,14 @@
 -- What the entry answers, and what the lent pans hold afterwards. Assumes nothing: these are definitions.
 --   Made       a bag was made: the best choice's number and weight, its pans emptied, all others a bag older
 --   Same       nothing lent was changed
+--   Answer     why nothing is taken, or the bag, or that there is none
 --   Answered   what each answer says: turned away, the best bag, or that no choice whatever fits
-use Rattle.std.specs.Prelude.{◌≡◌, ℕ, List, Some, None, Option}
+use Rattle.std.specs.Prelude.{◌≡◌, ℕ, List, Some, None, Option, Ok, Err, Result}
 use Rattle.choices.specs.Choice.{Choice, fits, weight_of, emptied, aged}
 use Rattle.choices.specs.Numbered.{number_of}
 use Rattle.choices.specs.declared.rule.Rule.{Rule}
 use Rattle.order.specs.Order.{BestOf, NoneOf}
 use Rattle.order.specs.declared.bag.Bag.{Bag}
-use Rattle.answers.specs.Refusals.{refusal_number}
-use Rattle.packing.specs.declared.entry.Done.{Done}
-use Rattle.packing.specs.declared.entry.Done.TheVariants.{Bag as Bagged, None as Nothing, Refused}
 use Rattle.answers.specs.declared.refusal.Refusal.{Refusal}
 
 pub record Made (r : Rule) (ws as' : List ℕ) (p w : ℕ) (ws₁ as₁ : List ℕ) : Type 0 where
@@ -30,16 +28,11 @@ abbrev pub Packs : Rule → (ws as' : List ℕ) → Option Bag → (ws₁ as₁ 
 Packs r ws as' None ws₁ as₁ = NoneOf (fits r ws as') × Same ws as' ws₁ as₁
 Packs r ws as' (Some b) ws₁ as₁ = Made r ws as' b.pans b.weight ws₁ as₁
 
--- the same as the entry answers it
-abbrev pub Packed : Rule → (ws as' : List ℕ) → Done → (ws₁ as₁ : List ℕ) → Type 0
-Packed r ws as' (Bagged p w) ws₁ as₁ = Made r ws as' p w ws₁ as₁
-Packed r ws as' Nothing ws₁ as₁ = NoneOf (fits r ws as') × Same ws as' ws₁ as₁
-Packed r ws as' (Refused n) ws₁ as₁ = ⊥
+abbrev pub Answer : Type 0
+Answer = Result (Option Bag) Refusal
 
-abbrev pub done_of : Option Bag → Done
-done_of None = Nothing
-done_of (Some b) = Bagged b.pans b.weight
-
-abbrev pub Answered : Option Refusal → Rule → (ws as' : List ℕ) → Done → (ws₁ as₁ : List ℕ) → Type 0
-Answered None r ws as' d ws₁ as₁ = Packed r ws as' d ws₁ as₁
-Answered (Some f) r ws as' d ws₁ as₁ = (d ≡ Refused (refusal_number f)) × Same ws as' ws₁ as₁
+abbrev pub Answered : Option Refusal → Rule → (ws as' : List ℕ) → Answer → (ws₁ as₁ : List ℕ) → Type 0
+Answered None r ws as' (Ok b) ws₁ as₁ = Packs r ws as' b ws₁ as₁
+Answered None r ws as' (Err g) ws₁ as₁ = ⊥
+Answered (Some f) r ws as' (Ok b) ws₁ as₁ = ⊥
+Answered (Some f) r ws as' (Err g) ws₁ as₁ = (g ≡ f) × Same ws as' ws₁ as₁

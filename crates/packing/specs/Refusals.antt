@@ -6,13 +6,14 @@
 --                  3: a weight or an age is above 1,000,000
 --   room_refusal   after these, 5: the lent room has fewer entries than the ring's halves take
 --                  (4 is for texts that can't be read)
+--   passed         what was asked for, where nothing is turned away, or why it is
 --   Ready          a rule and pans of which nothing is turned away, the rule as one
-use Rattle.std.specs.Prelude.{◌≡◌, ℕ, ◌+◌, ◌≤◌, min, cond, ◌&&◌, List, [], ◌∷◌, ◌++◌, length, Some, None, Option, ◌==◌, nat_le, slice_index}
+use Rattle.std.specs.Prelude.{◌≡◌, ℕ, ◌+◌, ◌≤◌, min, cond, ◌&&◌, List, [], ◌∷◌, ◌++◌, length, Some, None, Option, Ok, Err, Result, ◌==◌, nat_le, slice_index}
 use Rattle.std.specs.Option.{option_map}
 use Rattle.choices.specs.declared.rule.Rule.{Rule}
 use Rattle.halves.specs.Next.{room_for}
 use Rattle.answers.specs.declared.refusal.Refusal.{Refusal}
-use Rattle.answers.specs.declared.refusal.Refusal.TheVariants.{Rule as RuleRefused, Pans, Number, Line, Room}
+use Rattle.answers.specs.declared.refusal.Refusal.TheVariants.{Rule as RuleRefused, Pans, Number, Room}
 
 -- the first of two, where there is one
 abbrev pub or_else : {X : Type 0} → Option X → Option X → Option X
@@ -33,13 +34,24 @@ rule_fault rs =
 abbrev pub pans_fault : (pans ages : ℕ) → Option ℕ
 pans_fault n m = cond (nat_le 1 n && nat_le n 24) (cond (m == n) None (Some m)) (Some n)
 
+abbrev pub rule_refusal : (rule : List ℕ) → Option Refusal
+rule_refusal rs = option_map RuleRefused (rule_fault rs)
+
+abbrev pub pans_refusal : (pans ages : ℕ) → Option Refusal
+pans_refusal n m = option_map Pans (pans_fault n m)
+
+abbrev pub numbers_refusal : (weights_and_ages : List ℕ) → Option Refusal
+numbers_refusal xs = option_map Number (first_above 1000000 0 xs)
+
 abbrev pub first_refusal : (rule weights ages : List ℕ) → Option Refusal
-first_refusal rs ws as' =
-    or_else (option_map RuleRefused (rule_fault rs))
-    (or_else (option_map Pans (pans_fault (length ws) (length as'))) (option_map Number (first_above 1000000 0 (ws ++ as'))))
+first_refusal rs ws as' = or_else (rule_refusal rs) (or_else (pans_refusal (length ws) (length as')) (numbers_refusal (ws ++ as')))
 
 abbrev pub room_refusal : (rule weights ages : List ℕ) → (entries : ℕ) → Option Refusal
 room_refusal rs ws as' m = or_else (first_refusal rs ws as') (cond (nat_le (room_for (length ws)) m) None (Some (Room (room_for (length ws)))))
+
+abbrev pub passed : {X : Type 0} → Option Refusal → X → Result X Refusal
+passed None x = Ok x
+passed (Some f) x = Err f
 
 pub record Accepted (rs ws as' : List ℕ) : Type 0 where
   pub four : length rs ≡ 4
@@ -50,10 +62,6 @@ pub record Accepted (rs ws as' : List ℕ) : Type 0 where
   pub paired : length as' ≡ length ws
   pub light : (i : ℕ) → slice_index ws i ≤ 1000000
   pub young : (i : ℕ) → slice_index as' i ≤ 1000000
-
--- a rule in numbers: target, above, pans, age
-abbrev pub rule_in : List ℕ → Rule
-rule_in rs = record { target = slice_index rs 0; above = slice_index rs 1; pans = slice_index rs 2; age = slice_index rs 3 }
 
 pub record Ready (r : Rule) (ws as' : List ℕ) : Type 0 where
   pub some : 1 ≤ r.target

@@ -7,8 +7,8 @@ mod marks;
 mod one_bag;
 mod refusal;
 
-pub use entry::{Done, bag, bag_in, rule_in};
+pub use answers::Refusal;
+pub use entry::{bag, bag_in};
 pub use laws::{entries_agree, refusals_are_exact};
 pub use one_bag::pack;
-pub use answers::Refusal;
-pub use refusal::{first_above, turned_away, turned_away_in};
+pub use refusal::{checked, checked_in, first_above};

@@ -1,8 +1,10 @@
 // The checks of a rule and of lent pans, in the order of the list of refusals.
-ghost use Rattle.std.specs.Prelude.{◌≡◌, ◌+◌, ◌^◌, ◌<◌, ◌≤◌, ◌++◌, length, None};
-ghost use Rattle.packing.specs.Refusals.{Accepted, first_above, first_refusal, pans_fault, room_refusal, rule_fault};
+ghost use Rattle.std.specs.Prelude.{◌≡◌, ◌+◌, ◌^◌, ◌<◌, ◌≤◌, ◌++◌, length, OnOk};
+ghost use Rattle.choices.specs.Ruled.{rule_in};
+ghost use Rattle.packing.specs.Refusals.{Accepted, first_above, first_refusal, numbers_refusal, pans_refusal, passed, room_refusal, rule_refusal};
 
 use answers::Refusal;
+use choices::Rule;
 use halves::room_for;
 
 // No number of a rule, no weight and no age is above this.
@@ -15,88 +17,78 @@ pub fn first_above(numbers: &[u32], from: u64) -> Option<u64>
     requires { from + length numbers.now < 2 ^ 64 }
     ensures { result ≡ first_above 1000000 from numbers.now }
 {
-    let mut place = from;
-    for x in numbers {
-        if *x > LIMIT {
-            return Some(place);
-        }
-        place += 1;
-    }
-    None
+    let place = numbers.iter().position(|x| *x > LIMIT)?;
+    Some(from + place as u64)
 }
 
-// What is wrong with a rule in numbers.
-fn rule_fault(rule: &[u32]) -> Option<u64>
-    ensures { result ≡ rule_fault rule.now }
+// A rule in numbers: there are four, none is too large, and the target is not 0.
+fn rule_of(numbers: &[u32]) -> Result<Rule, Refusal>
+    ensures { result ≡ passed (rule_refusal numbers.now) (rule_in numbers.now) }
 {
-    if rule.len() != 4 {
-        return Some(rule.len().min(4) as u64);
+    let &[target, above, pans, age] = numbers else {
+        return Err(Refusal::Rule(numbers.len().min(4) as u64));
+    };
+    if let Some(place) = first_above(numbers, 0) {
+        return Err(Refusal::Rule(place));
     }
-    if let Some(place) = first_above(rule, 0) {
-        return Some(place);
+    if target == 0 {
+        return Err(Refusal::Rule(0));
     }
-    if rule[0] == 0 { Some(0) } else { None }
+    Ok(Rule::from([target, above, pans, age]))
 }
 
-// What is wrong with how many pans and ages there are.
-fn pans_fault(pans: usize, ages: usize) -> Option<u64>
-    ensures { result ≡ pans_fault pans ages }
+// How many pans and ages there are.
+fn check_pans(pans: usize, ages: usize) -> Result<(), Refusal>
+    ensures { result ≡ passed (pans_refusal pans ages) tt }
 {
     if pans == 0 || pans > PANS {
-        return Some(pans as u64);
+        return Err(Refusal::Pans(pans as u64));
     }
     if ages != pans {
-        Some(ages as u64)
-    } else {
-        None
+        return Err(Refusal::Pans(ages as u64));
     }
+    Ok(())
 }
 
-// What is wrong with the weights and the ages themselves.
-fn number_fault(weights: &[u32], ages: &[u32]) -> Option<u64>
+// The weights and the ages themselves.
+fn check_numbers(weights: &[u32], ages: &[u32]) -> Result<(), Refusal>
     requires { (length weights.now ≤ 24) × (length ages.now ≤ 24) }
-    ensures { result ≡ first_above 1000000 0 (weights.now ++ ages.now) }
+    ensures { result ≡ passed (numbers_refusal (weights.now ++ ages.now)) tt }
 {
-    match first_above(weights, 0) {
-        Some(place) => Some(place),
-        None => first_above(ages, weights.len() as u64),
+    if let Some(place) = first_above(weights, 0) {
+        return Err(Refusal::Number(place));
+    }
+    match first_above(ages, weights.len() as u64) {
+        Some(place) => Err(Refusal::Number(place)),
+        None => Ok(()),
     }
 }
 
-// The first refusal that applies, with its place; where there is none everything is in order.
-pub fn turned_away(rule: &[u32], weights: &[u32], ages: &[u32]) -> Option<Refusal>
-    ensures value { result ≡ first_refusal rule.now weights.now ages.now }
-    ensures taken { result ≡ None → Accepted rule.now weights.now ages.now }
+// The rule of a bag that is asked for, where everything is in order; or the first refusal that applies, with its place.
+pub fn checked(rule: &[u32], weights: &[u32], ages: &[u32]) -> Result<Rule, Refusal>
+    ensures value { result ≡ passed (first_refusal rule.now weights.now ages.now) (rule_in rule.now) }
+    ensures taken { OnOk result (Accepted rule.now weights.now ages.now) }
 {
-    if let Some(place) = rule_fault(rule) {
-        return Some(Refusal::Rule(place));
-    }
-    if let Some(count) = pans_fault(weights.len(), ages.len()) {
-        return Some(Refusal::Pans(count));
-    }
-    match number_fault(weights, ages) {
-        Some(place) => Some(Refusal::Number(place)),
-        None => None,
-    }
+    let rule = rule_of(rule)?;
+    check_pans(weights.len(), ages.len())?;
+    check_numbers(weights, ages)?;
+    Ok(rule)
 }
 
-// The first refusal that applies to an entry over a room of so many entries.
-pub fn turned_away_in(
+// The same for an entry over a room of so many entries, of which the ring's halves have to have enough.
+pub fn checked_in(
     rule: &[u32],
     weights: &[u32],
     ages: &[u32],
     entries: usize,
-) -> Option<Refusal>
-    ensures value { result ≡ room_refusal rule.now weights.now ages.now entries }
-    ensures taken { result ≡ None → Accepted rule.now weights.now ages.now }
+) -> Result<Rule, Refusal>
+    ensures value { result ≡ passed (room_refusal rule.now weights.now ages.now entries) (rule_in rule.now) }
+    ensures taken { OnOk result (Accepted rule.now weights.now ages.now) }
 {
-    if let Some(refusal) = turned_away(rule, weights, ages) {
-        return Some(refusal);
-    }
+    let rule = checked(rule, weights, ages)?;
     let takes = room_for(weights.len());
     if entries < takes {
-        Some(Refusal::Room(takes as u64))
-    } else {
-        None
+        return Err(Refusal::Room(takes as u64));
     }
+    Ok(rule)
 }

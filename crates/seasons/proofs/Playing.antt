@@ -5,7 +5,8 @@ use Rattle.choices.specs.declared.rule.Rule.{Rule}
 use Rattle.choices.proofs.Choices.{fitting}
 use Rattle.order.specs.Order.{NoneOf}
 use Rattle.packing.specs.Entry.{Made}
-use Rattle.packing.specs.Refusals.{Accepted, Ready, first_refusal, rule_in}
+use Rattle.choices.specs.Ruled.{rule_in}
+use Rattle.packing.specs.Refusals.{Accepted, Ready, first_refusal}
 use Rattle.packing.proofs.Refused.{ready, refusals_are_exact}
 use Rattle.promises.specs.Rows.{Stand, total, Falls, Bags, start, next}
 use Rattle.promises.proofs.Rows.{made_young, made_paired, length_falls, length_marked, bags_weigh_enough, no_pan_waits_too_long, rows_lose_nothing}

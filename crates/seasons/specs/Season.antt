@@ -12,7 +12,8 @@ use Rattle.choices.specs.Choice.{fits}
 use Rattle.choices.specs.declared.rule.Rule.{Rule}
 use Rattle.order.specs.Order.{NoneOf}
 use Rattle.packing.specs.Entry.{Made, Same}
-use Rattle.packing.specs.Refusals.{or_else, first_above, first_refusal, rule_in}
+use Rattle.choices.specs.Ruled.{rule_in}
+use Rattle.packing.specs.Refusals.{or_else, first_above, first_refusal}
 use Rattle.answers.specs.declared.refusal.Refusal.{Refusal}
 use Rattle.answers.specs.declared.refusal.Refusal.TheVariants.{Number, Line}
 use Rattle.promises.specs.Promises.{Young}

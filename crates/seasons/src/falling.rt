@@ -1,7 +1,7 @@
 // A handful that falls into an empty pan.
 ghost use Rattle.seasons.specs.Fall.{Fell, fall_refusal};
 
-use packing::Refusal;
+use answers::Refusal;
 
 // So many grams fall into a pan, which has to be there and empty; the line is where this was asked for.
 pub fn fall(weights: &mut [u32], pan: u32, grams: u32, line: u64) -> Result<(), Refusal>

@@ -1,12 +1,14 @@
 // Seasons: bag after bag, with handfuls of a list falling into the empty pans after each.
-ghost use Rattle.std.specs.Prelude.{◌≡◌, ℕ, ◌+◌, ◌*◌, ◌≤◌, None, slice_index};
-ghost use Rattle.packing.specs.Refusals.{Accepted, Ready, rule_in};
+ghost use Rattle.std.specs.Prelude.{◌≡◌, ℕ, ◌+◌, ◌*◌, ◌≤◌, OnOk, slice_index};
+ghost use Rattle.choices.specs.Ruled.{rule_in};
+ghost use Rattle.packing.specs.Refusals.{Accepted, Ready, passed};
 ghost use Rattle.seasons.specs.Season.{Keeps, Plays, Seasoned, season_refusal};
 
 use crate::handfuls::refill;
-use answers::Played;
+use answers::{Played, Refusal};
 use choices::Rule;
-use packing::{Refusal, first_above, pack, rule_in, turned_away};
+use engines::Rooms;
+use packing::{checked, first_above, pack};
 
 // What is told of so many bags of so much weight.
 fn told(rule: Rule, bags: u32, weight: u64, ended_early: bool) -> Played
@@ -32,8 +34,7 @@ fn play(
     ages: &mut [u32],
     handfuls: &[u32],
     bags: u32,
-    entries: &mut [u64],
-    bytes: &mut [u8],
+    rooms: &mut Rooms,
 ) -> Played
     requires ready { Ready rule weights.old ages.old }
     requires small { (i : ℕ) → slice_index handfuls.now i ≤ 1000000 }
@@ -43,7 +44,7 @@ fn play(
     let mut weight = 0u64;
     let mut next = 0;
     for made in 0..bags {
-        match pack(rule, weights, ages, entries, bytes) {
+        match pack(rule, weights, ages, rooms) {
             None => return told(rule, made, weight, true),
             Some(bag) => {
                 weight += u64::from(bag.weight);
@@ -54,31 +55,28 @@ fn play(
     told(rule, bags, weight, false)
 }
 
-// The first refusal that applies to a season that was asked for at a line.
-fn season_refusal(
+// The rule of a season that was asked for at a line, where everything is in order; or the first refusal that applies.
+fn season_checked(
     rule: &[u32],
     weights: &[u32],
     ages: &[u32],
     handfuls: &[u32],
     bags: u32,
     line: u64,
-) -> Option<Refusal>
-    ensures value { result ≡ season_refusal rule.now weights.now ages.now handfuls.now bags line }
-    ensures taken { result ≡ None → Accepted rule.now weights.now ages.now }
-    ensures small { result ≡ None → (i : ℕ) → slice_index handfuls.now i ≤ 1000000 }
-    ensures few { result ≡ None → bags ≤ 1000000 }
+) -> Result<Rule, Refusal>
+    ensures value { result ≡ passed (season_refusal rule.now weights.now ages.now handfuls.now bags line) (rule_in rule.now) }
+    ensures taken { OnOk result (Accepted rule.now weights.now ages.now) }
+    ensures small { OnOk result ((i : ℕ) → slice_index handfuls.now i ≤ 1000000) }
+    ensures few { OnOk result (bags ≤ 1000000) }
 {
-    if let Some(refusal) = turned_away(rule, weights, ages) {
-        return Some(refusal);
-    }
+    let rule = checked(rule, weights, ages)?;
     if let Some(place) = first_above(handfuls, 2 * weights.len() as u64) {
-        return Some(Refusal::Number(place));
+        return Err(Refusal::Number(place));
     }
     if bags > 1_000_000 {
-        Some(Refusal::Line(line))
-    } else {
-        None
+        return Err(Refusal::Line(line));
     }
+    Ok(rule)
 }
 
 // Plays a season of so many bags in the lent rooms: each bag is the best of its ring, exactly as the entry makes it, and
@@ -91,14 +89,11 @@ pub fn season(
     handfuls: &[u32],
     bags: u32,
     line: u64,
-    entries: &mut [u64],
-    bytes: &mut [u8],
+    rooms: &mut Rooms,
 ) -> Result<Played, Refusal>
     ensures answer { Seasoned (season_refusal rule.now weights.old ages.old handfuls.now bags line) (rule_in rule.now) handfuls.now bags weights.old ages.old weights.new ages.new result }
     ensures promises { Keeps rule.now handfuls.now bags weights.old ages.old weights.new ages.new result }
 {
-    match season_refusal(rule, weights, ages, handfuls, bags, line) {
-        Some(refusal) => Err(refusal),
-        None => Ok(play(rule_in(rule), weights, ages, handfuls, bags, entries, bytes)),
-    }
+    let rule = season_checked(rule, weights, ages, handfuls, bags, line)?;
+    Ok(play(rule, weights, ages, handfuls, bags, rooms))
 }

@@ -1,5 +1,5 @@
 -- What is left of the proof of the look over the pans.
-use Rattle.std.proofs.Common.{arith, inl, inr, sym, ◌∙◌}
+use Rattle.std.proofs.Common.{arith, inl, inr, ◌∙◌}
 use Rattle.choices.proofs.Looking.{looking_next, looking_all, looking_room}
 use Rattle.choices.proofs.tally.look.Goals as goal
 
@@ -21,7 +21,7 @@ pub returns : goal.returns
 returns c =
     let h = c.loop-w.invariant.3 in
     looking_all h
-      (elim c.in-None.ensures.steps [
-        | inl x ↦ elim x.1 [ | inl y ↦ omega (arith, h.left, y.1.0) | inr y ↦ omega (arith, h.left, h.paired, y.1.0) ]
-        | inr x ↦ omega (arith, c.loop-w.invariant.2, x.1.1.0)
-      ])
+    (elim c.in-None.ensures.steps [
+      | inl x ↦ elim x.1 [ inl y ↦ omega (arith, h.left, y.1.0) | inr y ↦ omega (arith, h.left, h.paired, y.1.0) ]
+      | inr x ↦ omega (arith, c.loop-w.invariant.2, x.1.1.0)
+    ])

@@ -2,5 +2,5 @@
 use Rattle.packing.proofs.Making.{made_by}
 use Rattle.packing.proofs.one_bag.pack.Goals as goal
 
-pub returns-in-Some : goal.returns-in-Some
-returns-in-Some c = made_by c.in-Some.ensures c.requires.paired c.open_pans.ensures.empties c.open_pans.ensures.ages
+pub returns : goal.returns
+returns g c = made_by c.in_ok-bag.ensures c.requires.ready.paired c.open_pans.ensures.empties c.open_pans.ensures.ages

@@ -1,25 +1,16 @@
 -- What is left of the proof of the first number above the limit.
-use Rattle.std.proofs.Common.{◌+◌, get_or, drop, sym, ◌∙◌, arith}
-use Rattle.std.proofs.lemmas.List.{at_drop_more, at_drop_all}
-use Rattle.packing.specs.Refusals.{first_above}
-use Rattle.packing.proofs.Refused.{first_above_here, first_above_later}
+use Rattle.std.proofs.Common.{◌<◌, ◌≤◌, sym, ◌∙◌, rules, Some, None}
+use borrow.Author.Tests.{tests}
+use Rattle.std.proofs.lemmas.Iterator.{YieldsList-from_slice, IsFirst-from_position}
+use Rattle.packing.proofs.Refused.{first_above_by}
 use Rattle.packing.proofs.refusal.first_above.Goals as goal
 
-pub returns-then-x-gt-LIMIT : goal.returns-then-x-gt-LIMIT
-returns-then-x-gt-LIMIT c =
-    let xs = c.args.numbers.now in
-    let i = c.loop-x.x-index in
-    let e = at_drop_more (first_above 1000000 c.loop-x.place) xs i 0 c.loop-x-test.true in
-    sym (sym c.loop-x.invariant.1 ∙ e ∙ first_above_here 1000000 c.loop-x.place (get_or xs i 0) (drop (i + 1) xs) c.if-x-gt-LIMIT.true)
-
-pub loop-x-preserved : goal.loop-x-preserved
-loop-x-preserved c =
-    let xs = c.args.numbers.now in
-    let i = c.loop-x.x-index in
-    let e = at_drop_more (first_above 1000000 c.loop-x.place) xs i 0 c.loop-x-test.true in (
-      omega arith,
-      sym (e ∙ first_above_later 1000000 c.loop-x.place (get_or xs i 0) (drop (i + 1) xs) c.if-x-gt-LIMIT.false) ∙ c.loop-x.invariant.1,
-    )
+pub returns-in_err-place : goal.returns-in_err-place
+returns-in_err-place c =
+    let h = IsFirst-from_position _ _ c.position.result (λ x. 1000000 < x) (λ x. x ≤ 1000000) c.position.ensures.ran (YieldsList-from_slice c.args.numbers.now cc) (λ x q k. search (rules, tests)) (λ x q k. search (rules, tests)) in
+    c.from_residual.ensures ∙ sym (first_above_by 1000000 c.args.from c.args.numbers.now None (rw c.in_err-place.was at h))
 
 pub returns : goal.returns
-returns c = sym (sym c.loop-x.invariant.1 ∙ at_drop_all (first_above 1000000 c.loop-x.place) c.args.numbers.now c.loop-x.x-index c.loop-x-test.false)
+returns c =
+    let h = IsFirst-from_position _ _ c.position.result (λ x. 1000000 < x) (λ x. x ≤ 1000000) c.position.ensures.ran (YieldsList-from_slice c.args.numbers.now cc) (λ x q k. search (rules, tests)) (λ x q k. search (rules, tests)) in
+    sym (first_above_by 1000000 c.args.from c.args.numbers.now (Some c.in_ok-place.place) (rw c.in_ok-place.was at h))

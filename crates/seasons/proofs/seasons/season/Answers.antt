@@ -1,18 +1,18 @@
--- What is left of the proof that a season is played and keeps its promises.
-use Rattle.std.proofs.Common.{sym, subst}
+-- What is left of the proof that a season keeps its promises.
+use Rattle.std.proofs.Common.{subst}
 use Rattle.choices.specs.declared.rule.Rule.{Rule}
+use Rattle.packing.proofs.Refused.{passed_as}
 use Rattle.seasons.specs.Season.{Plays}
 use Rattle.seasons.proofs.Playing.{kept}
 use Rattle.seasons.proofs.seasons.season.Goals as goal
 
-pub returns-in-None : goal.returns-in-None
-returns-in-None c =
+pub returns-clause-promises : goal.returns-clause-promises
+returns-clause-promises c =
+    let f = c.in_ok-rule.ensures in
     let hs = c.args.handfuls.now in
     let ws = c.args.weights.now in
     let as' = c.args.ages.now in
-    let f = c.season_refusal.ensures in
-    let played = subst (λ (r : Rule). Plays r hs c.args.bags ws as' c.play.new.weights c.play.new.ages c.play.result) c.rule_in.ensures c.play.ensures in
-    record {
-      answer = rw (sym c.in-None.ensures.value) played;
-      promises = kept c.args.rule.now hs ws as' c.play.new.weights c.play.new.ages c.args.bags c.play.result (f.taken c.in-None.is) (f.small c.in-None.is) played;
-    }
+    let ws₁ = c.play.new.weights in
+    let as₁ = c.play.new.ages in
+    kept c.args.rule.now hs ws as' ws₁ as₁ c.args.bags c.play.result f.taken f.small
+      (subst (λ (r : Rule). Plays r hs c.args.bags ws as' ws₁ as₁ c.play.result) (passed_as _ _ _ f.value).1 c.play.ensures)
