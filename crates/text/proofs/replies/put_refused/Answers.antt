@@ -7,5 +7,5 @@ use Rattle.text.proofs.replies.put_refused.Goals as goal
 pub returns : goal.returns
 returns g c = λ plain ok.
     has_written_of_eq g.W.Write.write_str_gives _ _ _ _
-    (rw (decimal_is c.args.number (omega arith), decimal_is c.args.place (omega arith)))
+    (rw (decimal_is c.number-number.result (omega arith), decimal_is c.place-place.result (omega arith), c.number-number.ensures, c.place-place.ensures))
     (c.write.ensures.writes plain ok)
