@@ -10,7 +10,7 @@ use Rattle.text.specs.Scanning.{capped}
 pub digit_is : (b : ℕ) → IsInRange 48 57 b → digit_value b ≡ b - 48
 digit_is b h = grind (arith, nat_tests)
 
-pub capped_more : (v w d : ℕ) → w ≡ capped v → min (w * 10 + d) (2 ^ 32 - 1) ≡ capped (v * 10 + d)
+pub capped_more : (v w d : ℕ) → w ≡ capped v → min (min (w * 10) (2 ^ 32 - 1) + d) (2 ^ 32 - 1) ≡ capped (v * 10 + d)
 capped_more v w d e = omega (arith, e)
 
 -- the number that the first i digits write, with the next digit
@@ -18,5 +18,5 @@ module _ (bs : List ℕ) (i : ℕ) (inside : i < length bs) (digit : IsInRange 4
   pub more_digits : AllDigits 10 (take i bs) → AllDigits 10 (take (i + 1) bs)
   more_digits ds = digits_more 10 bs i inside ds (omega (arith, digit_is (get_or bs i 0) digit, digit))
 
-  pub more_value : (w : ℕ) → w ≡ capped (digits_value 10 (take i bs)) → min (w * 10 + (get_or bs i 0 - 48)) (2 ^ 32 - 1) ≡ capped (digits_value 10 (take (i + 1) bs))
+  pub more_value : (w : ℕ) → w ≡ capped (digits_value 10 (take i bs)) → min (min (w * 10) (2 ^ 32 - 1) + (get_or bs i 0 - 48)) (2 ^ 32 - 1) ≡ capped (digits_value 10 (take (i + 1) bs))
   more_value w e = capped_more _ _ _ e ∙ ap capped (sym (digits_value_more 10 bs i inside ∙ ap (λ d. digits_value 10 (take i bs) * 10 + d) (digit_is (get_or bs i 0) digit)))

@@ -1,6 +1,6 @@
 -- A number that is found after its blank.
-use Rattle.std.proofs.Common.{◌≡◌, ℕ, ◌-◌, ◌<◌, List, [], ◌∷◌, ◌++◌, length, get_or, take, drop, sym, refl, ap, ◌∙◌, subst, arith, take-append-drop}
-use Rattle.std.proofs.lemmas.List.{length-take-le, get_or-take, take_rest, nil_from_length}
+use Rattle.std.proofs.Common.{◌≡◌, ℕ, ◌-◌, ◌<◌, List, [], ◌∷◌, ◌++◌, length, get_or, take, drop, sym, refl, ap, ◌∙◌, arith, take-append-drop}
+use Rattle.std.proofs.lemmas.List.{length-take-le, get_or-take, nil_from_length}
 use Rattle.std.proofs.lemmas.Slice.{first_rest}
 use Rattle.std.proofs.lemmas.Str.Parse.{digit_from_value}
 use Rattle.std.specs.Str.Parse.{AllDigits, digits_value}
@@ -75,8 +75,8 @@ module _ (bs : List ℕ) (v n : ℕ) (f : Figures bs v n) where
       only = only;
     }
 
-    pub begins_at : (text : List ℕ) → text ≡ 32 ∷ bs → Begins text v (take (length bs - n) (drop n bs))
-    begins_at text whole = subst (λ l. Begins l v (take (length bs - n) (drop n bs))) (sym whole) (subst (Begins (32 ∷ bs) v) (sym (take_rest bs n)) begins)
+    pub begins_at : (text rest : List ℕ) → text ≡ 32 ∷ bs → rest ≡ drop n bs → Begins text v rest
+    begins_at text rest whole back = rw (whole, back) begins
 
 -- one number and nothing behind it
 module _ (text rest : List ℕ) (n : ℕ) (b : Begins text n rest) where

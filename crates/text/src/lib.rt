@@ -8,14 +8,14 @@ mod replies;
 mod scanning;
 mod words;
 
-pub use commands::{Command, Fault, Line};
+pub use commands::{Command, Fault};
 pub use reading::{read, reread};
 pub use replies::Reply;
 pub use words::Word;
 
 #[cfg(test)]
 mod tests {
-    use crate::commands::{Fault, Line};
+    use crate::commands::Fault;
     use crate::reading::read;
     use crate::replies::Reply;
     use answers::{Played, Refusal};
@@ -27,11 +27,8 @@ mod tests {
     // What a line says, written again; a blank line gives nothing.
     fn again(heap: Global, line: &str) -> Result<String, Fault> {
         match read(heap, line.as_bytes())? {
-            Line::Blank => Ok(String::new(heap)),
-            Line::Command(command) => match command.to_string(heap) {
-                Ok(text) => Ok(text),
-                Err(_) => Err(Fault::NoMemory),
-            },
+            None => Ok(String::new(heap)),
+            Some(command) => Ok(command.to_string(heap)?),
         }
     }
 
