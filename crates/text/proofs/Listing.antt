@@ -42,10 +42,6 @@ some_text text kept rest more n s b e = omega (arith, ap length (sym s.split ∙
 pub done : (text kept rest : List ℕ) → Sofar text kept rest → length rest ≡ 0 → (ns : List ℕ) × (text ≡ spaced ns) × (kept ≡ map capped ns)
 done text kept rest s none = (s.numbers, s.split ∙ ap (λ l. spaced s.numbers ++ l) (nil_from_length rest none) ∙ append-nil (spaced s.numbers), s.items)
 
--- something is left, and no number begins it
-pub stuck : (text kept rest : List ℕ) → Sofar text kept rest → ((ms : List ℕ) → rest ≡ spaced ms → ms ≡ []) → (length rest ≡ 0 → ⊥) → (ns : List ℕ) → text ≡ spaced ns → ⊥
-stuck text kept rest s none some ns e = let r = s.only ns e in some (ap length (r.2 ∙ ap spaced (none r.0 r.2)))
-
 module _ (text kept rest : List ℕ) (s : Sofar text kept rest) where
   pub counted : length s.numbers ≡ length kept
   counted = sym (ap length s.items ∙ length-map s.numbers capped)

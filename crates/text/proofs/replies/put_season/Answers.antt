@@ -1,7 +1,7 @@
 -- The numbers in decimal, and how the season ended.
 use Rattle.std.proofs.Common.{◌≡◌, cond, [], codes, arith}
-use Rattle.std.proofs.Output.{has_written_of_eq}
 use Rattle.text.proofs.Numerals.{decimal_is}
+use Rattle.text.proofs.Printing.{put_as}
 use Rattle.text.proofs.replies.put_season.Goals as goal
 use Rattle.text.proofs.replies.put_season.Goals.{then-ended_early, else-ended_early}
 
@@ -13,6 +13,5 @@ returns g c = λ plain ok.
       | then-ended_early w ↦ rw (w.ending-is, w.if-ended_early.true)
       | else-ended_early w ↦ rw (w.ending-is, w.if-ended_early.false)
     ] in
-    has_written_of_eq g.W.Write.write_str_gives _ _ _ _
+    put_as (c.write.ensures.writes plain ok)
     (rw (decimal_is season.bags (omega arith), decimal_is season.weight (omega arith), decimal_is season.given_away (omega arith), ending))
-    (c.write.ensures.writes plain ok)
