@@ -1,12 +1,13 @@
 -- A number that is found after its blank.
-use Rattle.std.proofs.Common.{◌≡◌, ℕ, ◌-◌, ◌<◌, List, [], ◌∷◌, ◌++◌, length, get_or, take, drop, sym, refl, ap, ◌∙◌, subst, arith, take-append-drop}
-use Rattle.std.proofs.lemmas.List.{length-take-le, get_or-take, take_rest, nil_from_length}
+use Rattle.std.proofs.Common.{◌≡◌, ℕ, ◌-◌, ◌<◌, List, [], ◌∷◌, ◌++◌, length, get_or, take, drop, sym, refl, ap, ◌∙◌, arith, take-append-drop}
+use Rattle.std.proofs.ByRecursion.{All-from_get_or}
+use Rattle.std.proofs.lemmas.List.{length-take-le, get_or-take}
 use Rattle.std.proofs.lemmas.Slice.{first_rest}
-use Rattle.std.proofs.lemmas.Str.Parse.{digit_from_value}
+use Rattle.std.proofs.lemmas.Str.Parse.{digit_at}
 use Rattle.std.specs.Str.Parse.{AllDigits, digits_value}
 use Rattle.std.specs.Int.{IsInRange}
 use Rattle.std.specs.List.{AllByRecursion as All}
-use Rattle.text.specs.Scanning.{capped, Figures, Begins}
+use Rattle.text.specs.Scanning.{Figures, Begins}
 use Rattle.text.specs.Written.{numeral, spaced}
 use Rattle.text.proofs.Cuts.{Outside, same_cut, cut_at, tail}
 use Rattle.text.proofs.Numerals.{digits_numeral, numeral_some, numeral_first, numeral_value, same_number}
@@ -36,8 +37,7 @@ same_spaced (m ∷ ms) (n ∷ ns) e =
     (λ i. same_number m n r.0 i ∷ same_spaced ms ns r.1 i)
 
 all_digits : (ds : List ℕ) → AllDigits 10 ds → All (IsInRange 48 57) ds
-all_digits [] h = tt
-all_digits (d ∷ ds) h = (digit_from_value d h.0, all_digits ds h.1)
+all_digits ds h = All-from_get_or (IsInRange 48 57) ds 0 (λ i lt. digit_at ds i h lt)
 
 module _ (bs : List ℕ) (v n : ℕ) (f : Figures bs v n) where
   cut_number : (k : ℕ) (ks : List ℕ) → bs ≡ numeral k ++ spaced ks → (take n bs ≡ numeral k) × (drop n bs ≡ spaced ks)
@@ -75,21 +75,5 @@ module _ (bs : List ℕ) (v n : ℕ) (f : Figures bs v n) where
       only = only;
     }
 
-    pub begins_at : (text : List ℕ) → text ≡ 32 ∷ bs → Begins text v (take (length bs - n) (drop n bs))
-    begins_at text whole = subst (λ l. Begins l v (take (length bs - n) (drop n bs))) (sym whole) (subst (Begins (32 ∷ bs) v) (sym (take_rest bs n)) begins)
-
--- one number and nothing behind it
-module _ (text rest : List ℕ) (n : ℕ) (b : Begins text n rest) where
-  pub one_found : length rest ≡ 0 → (m : ℕ) × (text ≡ spaced (m ∷ [])) × (n ≡ capped m)
-  one_found none = (b.number, b.split ∙ ap (λ l. 32 ∷ (numeral b.number ++ l)) (nil_from_length rest none), b.kept)
-
-  -- what stands behind the first number of some
-  pub behind : (m : ℕ) (ms : List ℕ) → text ≡ spaced (m ∷ ms) → rest ≡ spaced ms
-  behind m ms e = let r = b.only (m ∷ ms) e in r.2 ∙ ap spaced (sym (tail r.1))
-
-  pub one_refused : (length rest ≡ 0 → ⊥) → (m : ℕ) → text ≡ spaced (m ∷ []) → ⊥
-  one_refused some m e = some (ap length (behind m [] e))
-
--- where there is no number there are not more
-pub none_found : (text : List ℕ) → ((ns : List ℕ) → text ≡ spaced ns → ns ≡ []) → (m : ℕ) (ms : List ℕ) → text ≡ spaced (m ∷ ms) → ⊥
-none_found text none m ms e = omega (arith, ap length (none (m ∷ ms) e))
+    pub begins_at : (text rest : List ℕ) → text ≡ 32 ∷ bs → rest ≡ drop n bs → Begins text v rest
+    begins_at text rest whole back = rw (whole, back) begins

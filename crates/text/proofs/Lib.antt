@@ -7,6 +7,5 @@ mod Lines
 mod Listing
 mod Numerals
 mod Opened
-mod Passing
 mod Printing
 mod Spacing

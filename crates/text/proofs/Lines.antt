@@ -77,7 +77,7 @@ module _ (line : List ℕ) (end : ℕ) (b : FirstBlank line end) where
   no_word none w ns takes e = none w (cut_word w ns e).0
 
   module _ (word : Word) (spelled : take end line ≡ spelling word) where
-    pub no_numbers : ((ns : List ℕ) → Takes word (length ns) → drop end line ≡ spaced ns → ⊥) → Unwritten line
+    no_numbers : ((ns : List ℕ) → Takes word (length ns) → drop end line ≡ spaced ns → ⊥) → Unwritten line
     no_numbers none w ns takes e =
         let r = cut_word w ns e in
         none ns (subst (λ v. Takes v (length ns)) (same_word w word (sym r.0 ∙ spelled)) takes) r.1

@@ -6,6 +6,7 @@ use Rattle.std.proofs.lemmas.Fmt.{decimal-digits_of}
 use Rattle.std.proofs.lemmas.Int.Digits.{digits_of_step, length-digits_of_step, all_below_base_digits_of, first_digits_of, number_digits_of, number_after_ge, digits_value_is, all_below_base_from_digits}
 use Rattle.std.proofs.ByRecursion.{All-map, All-weaker}
 use Rattle.std.proofs.lemmas.List.{get_or-map, nil_from_length}
+use Rattle.std.proofs.lemmas.Str.{digit_value_digit}
 use Rattle.std.proofs.lemmas.Str.Parse.{digit_from_value}
 use Rattle.std.proofs.lemmas.Bool.{cases_eq, cond-false, ne_eqb}
 use Rattle.std.specs.Str.Parse.{AllDigits, digits_value}
@@ -15,7 +16,6 @@ use Rattle.std.specs.Fmt.{digits}
 use Rattle.std.specs.Int.Digits.{digits_of, number_from_digits_after, number_from_digits, AllBelowBase}
 use Rattle.std.specs.List.{AllByRecursion as All}
 use Rattle.text.specs.Written.{numeral}
-use Rattle.text.proofs.Digits.{digit_is}
 
 numeral_zero : numeral 0 ≡ 48 ∷ []
 unfolding numeral
@@ -58,7 +58,7 @@ numeral_first =
 values_back : (ds : List ℕ) → AllBelowBase 10 ds → map digit_value (map (λ d. 48 + d) ds) ≡ ds
 values_back [] under = refl
 values_back (d ∷ ds) under =
-    let one : digit_value (48 + d) ≡ d = omega (arith, digit_is (48 + d) (omega arith, omega arith)) in
+    let one : digit_value (48 + d) ≡ d = omega (arith, digit_value_digit (48 + d) (omega arith, omega arith)) in
     (λ i. one i ∷ values_back ds under.1 i)
 
 value_numeral : (n : ℕ) → digits_value 10 (numeral n) ≡ n
@@ -86,7 +86,7 @@ bytes_back : (bs : List ℕ) → AllDigits 10 bs → map (λ d. 48 + d) (map dig
 bytes_back [] ds = refl
 bytes_back (b ∷ bs) ds =
     let digit = digit_from_value b ds.0 in
-    let one : 48 + digit_value b ≡ b = omega (arith, digit_is b digit, digit) in
+    let one : 48 + digit_value b ≡ b = omega (arith, digit_value_digit b digit, digit) in
     (λ i. one i ∷ bytes_back bs ds.1 i)
 
 -- digits that don't begin with a 0, or just `0`, are how their number is written
@@ -97,7 +97,7 @@ numeral_value (b ∷ bs) ds some one =
     (λ e. let none : bs ≡ [] = nil_from_length bs (omega (arith, one e)) in subst (λ l. numeral (digits_value 10 l) ≡ l) (sym (λ i. e i ∷ none i)) numeral_zero)
     (λ ne.
     let digit = digit_from_value b ds.0 in
-    let first : 0 < digit_value b = omega (arith, digit_is b digit, digit, ne) in
+    let first : 0 < digit_value b = omega (arith, digit_value_digit b digit, digit, ne) in
     let under = all_below_base_from_digits 10 (b ∷ bs) ds in
     let after = digits_after (0 * 10 + digit_value b) (map digit_value bs) (omega arith) under.1 ∙ ap (λ l. l ++ map digit_value bs) (digits_one (digit_value b) (0 * 10 + digit_value b) first ds.0 (omega arith)) in
     let more : 0 < digits_value 10 (b ∷ bs) = omega (arith, digits_value_is 10 (b ∷ bs), number_after_ge 10 (0 * 10 + digit_value b) (map digit_value bs) (omega arith)) in

@@ -1,10 +1,8 @@
 -- What reading a line answers.
-use Rattle.std.specs.Prelude.{◌≡◌, ℕ, ◌⊎◌, List, [], ◌∷◌, ◌++◌, map, length, Ok, Err, Result, ◌≢◌}
+use Rattle.std.specs.Prelude.{◌≡◌, ℕ, ◌⊎◌, List, [], ◌∷◌, ◌++◌, map, length, Some, None, Ok, Err, Option, Result, ◌≢◌}
 use Rattle.text.specs.declared.commands.Command.{Command}
 use Rattle.text.specs.declared.commands.Fault.{Fault}
 use Rattle.text.specs.declared.commands.Fault.TheVariants.{Unreadable, NoMemory}
-use Rattle.text.specs.declared.commands.Line.{Line}
-use Rattle.text.specs.declared.commands.Line.TheVariants as line
 use Rattle.text.specs.declared.words.Word.{Word}
 use Rattle.text.specs.declared.words.Word.TheVariants.{Rule, Pans, Ages, Handfuls, Bag, Fall, Bags}
 use Rattle.text.specs.Commands.{word_of, numbers_of}
@@ -49,9 +47,9 @@ Unwritten bs = (w : Word) (ns : List ℕ) → Takes w (length ns) → bs ≢ wri
 abbrev pub Begun : List ℕ → Type 0
 Begun bs = (w : Word) × Many w × ((rest : List ℕ) × (bs ≡ spelling w ++ (32 ∷ rest)))
 
-abbrev pub Reads : List ℕ → Result Line Fault → Type 0
-Reads bs (Ok line.Blank) = Passed bs
-Reads bs (Ok (line.Command c)) = Says bs c
+abbrev pub Reads : List ℕ → Result (Option Command) Fault → Type 0
+Reads bs (Ok None) = Passed bs
+Reads bs (Ok (Some c)) = Says bs c
 Reads bs (Err Unreadable) = (Passed bs → ⊥) × Unwritten bs
 Reads bs (Err NoMemory) = Begun bs
 

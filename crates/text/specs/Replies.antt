@@ -1,7 +1,11 @@
 -- What is printed for each answer.
-use Rattle.std.specs.Prelude.{ℕ, zero, suc, ◌/◌, ◌%◌, ◌^◌, Bool, cond, List, [], ◌∷◌, ◌++◌, codes, ◌==◌}
+use Rattle.std.specs.Prelude.{ℕ, zero, suc, ◌/◌, ◌%◌, ◌^◌, Bool, cond, List, [], ◌∷◌, ◌++◌, codes, ◌==◌, Some, None, Ok, Err, Option, Result}
+use Rattle.answers.specs.Refusals.{refusal_number, refusal_place}
+use Rattle.answers.specs.declared.played.Played.{Played}
+use Rattle.answers.specs.declared.refusal.Refusal.{Refusal}
+use Rattle.order.specs.declared.bag.Bag.{Bag}
 use Rattle.text.specs.declared.replies.Reply.{Reply}
-use Rattle.text.specs.declared.replies.Reply.TheVariants.{Open, None, Refused, Season}
+use Rattle.text.specs.declared.replies.Reply.TheVariants.{Open, None as NoChoice, Refused, Season}
 use Rattle.text.specs.Written.{numeral, spaced}
 
 -- the pans below k that the number opens, the lowest first: bit i is pan i
@@ -20,7 +24,18 @@ season_text bags weight given early =
     codes "bags " ++ (numeral bags ++ (codes ": " ++ (numeral weight ++ (codes ", " ++ (numeral given ++ (codes " given away" ++ cond early (codes ", then none") []))))))
 
 abbrev pub said : Reply → List ℕ
-said (Open pans weight) = open_text pans weight
-said None = codes "none"
-said (Refused number place) = refused_text number place
-said (Season bags weight given early) = season_text bags weight given early
+said (Open bag) = open_text bag.pans bag.weight
+said NoChoice = codes "none"
+said (Refused f) = refused_text (refusal_number f) (refusal_place f)
+said (Season p) = season_text p.bags p.weight p.given_away p.ended_early
+
+-- the answer where a bag was asked for: the bag, that no choice fits, or why nothing was taken
+abbrev pub reply_of : Result (Option Bag) Refusal → Reply
+reply_of (Ok (Some bag)) = Open bag
+reply_of (Ok None) = NoChoice
+reply_of (Err f) = Refused f
+
+-- the answer where a season was asked for
+abbrev pub season_reply : Result Played Refusal → Reply
+season_reply (Ok p) = Season p
+season_reply (Err f) = Refused f

@@ -29,6 +29,12 @@ pub record Begins (bs : List ℕ) (n : ℕ) (rest : List ℕ) : Type 0 where
 abbrev pub NextNumber : List ℕ → Option (ℕ × Bor (List ℕ)) → Type 0
 NextNumber bs r = MatchOption r ((ns : List ℕ) → bs ≡ spaced ns → ns ≡ []) (λ x. Begins bs x.0 x.1.now)
 
+-- k numbers and nothing behind them
+abbrev pub Exactly : ℕ → List ℕ → Result (List ℕ) Fault → Type 0
+Exactly k bs (Ok xs) = (ns : List ℕ) × (length ns ≡ k) × (bs ≡ spaced ns) × (xs ≡ map capped ns)
+Exactly k bs (Err Unreadable) = (ns : List ℕ) → length ns ≡ k → bs ≢ spaced ns
+Exactly k bs (Err NoMemory) = ⊥
+
 abbrev pub OneNumber : List ℕ → Option ℕ → Type 0
 OneNumber bs r = MatchOption r ((n : ℕ) → bs ≢ spaced (n ∷ [])) (λ x. (n : ℕ) × (bs ≡ spaced (n ∷ [])) × (x ≡ capped n))
 

@@ -1,10 +1,12 @@
 // A command, and how it is written.
-ghost use Rattle.std.specs.Prelude.{Some};
+ghost use Rattle.std.specs.Prelude.{◌≡◌, Some};
 ghost use Rattle.text.specs.Written.{written};
 ghost use Rattle.text.specs.Commands.{word_of, numbers_of};
+ghost use Rattle.text.specs.declared.commands.Fault.TheVariants.{NoMemory};
 
 use crate::numbers::put_line;
 use crate::words::Word;
+use std::alloc::{AllocError, AllocFailed};
 use std::fmt;
 
 #[derive(Drop)]
@@ -18,18 +20,27 @@ pub enum Command {
     Bags(u32),
 }
 
-// What a line that can be read holds: nothing, or a command.
-#[derive(Drop)]
-pub enum Line {
-    Blank,
-    Command(Command),
-}
-
 // Why no line was read.
-#[derive(Clone, Copy, Debug)]
+#[derive(Clone, Copy, Debug, PartialEq, Eq)]
 pub enum Fault {
     Unreadable,
     NoMemory,
+}
+
+impl From<AllocError> for Fault {
+    ghost from_gives = { λ _ fault. fault ≡ NoMemory };
+
+    fn from(_error: AllocError) -> Fault {
+        Fault::NoMemory
+    }
+}
+
+impl<T: Drop> From<AllocFailed<T>> for Fault {
+    ghost from_gives = { λ _ fault. fault ≡ NoMemory };
+
+    fn from(_error: AllocFailed<T>) -> Fault {
+        Fault::from(AllocError)
+    }
 }
 
 impl fmt::Display for Command {

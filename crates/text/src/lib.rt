@@ -8,16 +8,18 @@ mod replies;
 mod scanning;
 mod words;
 
-pub use commands::{Command, Fault, Line};
+pub use commands::{Command, Fault};
 pub use reading::{read, reread};
 pub use replies::Reply;
 pub use words::Word;
 
 #[cfg(test)]
 mod tests {
-    use crate::commands::{Fault, Line};
+    use crate::commands::Fault;
     use crate::reading::read;
     use crate::replies::Reply;
+    use answers::{Played, Refusal};
+    use order::Bag;
     use std::alloc::Global;
     use std::process::Abort;
     use std::test::Fail;
@@ -25,11 +27,8 @@ mod tests {
     // What a line says, written again; a blank line gives nothing.
     fn again(heap: Global, line: &str) -> Result<String, Fault> {
         match read(heap, line.as_bytes())? {
-            Line::Blank => Ok(String::new(heap)),
-            Line::Command(command) => match command.to_string(heap) {
-                Ok(text) => Ok(text),
-                Err(_) => Err(Fault::NoMemory),
-            },
+            None => Ok(String::new(heap)),
+            Some(command) => Ok(command.to_string(heap)?),
         }
     }
 
@@ -84,32 +83,24 @@ mod tests {
     #[test]
     fn replies(rt: HostRuntime) -> Result<(), Fail> {
         let heap = rt.alloc();
-        printed(
-            &rt,
-            heap,
-            Reply::Open {
-                pans: 204,
-                weight: 100,
-            },
-            "open 2 3 6 7: 100",
-        )?;
+        let open = Reply::from(Ok(Some(Bag {
+            pans: 204,
+            weight: 100,
+        })));
+        printed(&rt, heap, open, "open 2 3 6 7: 100")?;
         printed(&rt, heap, Reply::None, "none")?;
         printed(
             &rt,
             heap,
-            Reply::Refused {
-                number: 3,
-                place: 5,
-            },
+            Reply::Refused(Refusal::Number(5)),
             "refused 3 at 5",
         )?;
-        let (bags, weight, given_away) = (7, 702, 2);
-        let season = Reply::Season {
-            bags,
-            weight,
-            given_away,
+        let season = Reply::from(Ok(Played {
+            bags: 7,
+            weight: 702,
+            given_away: 2,
             ended_early: true,
-        };
+        }));
         printed(&rt, heap, season, "bags 7: 702, 2 given away, then none")
     }
 }

@@ -31,6 +31,6 @@ pub fn put_line<W: fmt::Write>(
 ) -> fmt::Result
     ensures { WritesOnOk W.write_str_gives f.old result (written word numbers.now) f.new }
 {
-    f.write_str(word.text())?;
+    write!(f, "{word}")?;
     put_numbers(f, numbers)
 }

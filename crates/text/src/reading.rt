@@ -4,8 +4,8 @@ ghost use Rattle.text.specs.Commands.{numbers_of};
 ghost use Rattle.text.specs.Scanning.{capped};
 ghost use Rattle.text.specs.Reading.{Passed, Filled, Reads, Rereads};
 
-use crate::commands::{Command, Fault, Line};
-use crate::scanning::{numbers, one, two};
+use crate::commands::{Command, Fault};
+use crate::scanning::{exactly, numbers};
 use crate::words::Word;
 use std::alloc::Global;
 
@@ -13,11 +13,7 @@ use std::alloc::Global;
 fn passed_over(line: &[u8]) -> bool
     ensures { MatchBool result (Passed line.now) (Passed line.now → ⊥) }
 {
-    if line.is_empty() {
-        true
-    } else {
-        line[0] == b'#'
-    }
+    matches!(line, [] | [b'#', ..])
 }
 
 // Where the first blank stands, or the line's end.
@@ -26,12 +22,7 @@ fn word_end(line: &[u8]) -> usize
     ensures before { (k : ℕ) → k < result → slice_index line.now k ≢ 32 }
     ensures found { result < length line.now → slice_index line.now result ≡ 32 }
 {
-    for (i, b) in line.iter().enumerate() {
-        if *b == b' ' {
-            return i;
-        }
-    }
-    line.len()
+    line.iter().position(|b| *b == b' ').unwrap_or(line.len())
 }
 
 // The command with this word and the numbers in the text.
@@ -44,35 +35,30 @@ fn command(heap: Global, word: Word, text: &[u8]) -> Result<Command, Fault>
         Word::Ages => Ok(Command::Ages(numbers(heap, text)?)),
         Word::Handfuls => Ok(Command::Handfuls(numbers(heap, text)?)),
         Word::Bag => {
-            if text.is_empty() {
-                Ok(Command::Bag)
-            } else {
-                Err(Fault::Unreadable)
-            }
+            let [] = exactly::<0>(text)?;
+            Ok(Command::Bag)
         }
-        Word::Fall => match two(text) {
-            Some((pan, weight)) => Ok(Command::Fall(pan, weight)),
-            None => Err(Fault::Unreadable),
-        },
-        Word::Bags => match one(text) {
-            Some(count) => Ok(Command::Bags(count)),
-            None => Err(Fault::Unreadable),
-        },
+        Word::Fall => {
+            let [pan, weight] = exactly::<2>(text)?;
+            Ok(Command::Fall(pan, weight))
+        }
+        Word::Bags => {
+            let [count] = exactly::<1>(text)?;
+            Ok(Command::Bags(count))
+        }
     }
 }
 
-// What a line says, without its line end.
-pub fn read(heap: Global, line: &[u8]) -> Result<Line, Fault>
+// What a line says, without its line end: a command, or nothing.
+pub fn read(heap: Global, line: &[u8]) -> Result<Option<Command>, Fault>
     ensures { Reads line.now result }
 {
     if passed_over(line) {
-        return Ok(Line::Blank);
+        return Ok(None);
     }
     let (name, text) = line.split_at(word_end(line));
-    let Some(word) = Word::of(name) else {
-        return Err(Fault::Unreadable);
-    };
-    Ok(Line::Command(command(heap, word, text)?))
+    let word = Word::try_from(name)?;
+    Ok(Some(command(heap, word, text)?))
 }
 
 // No number of a slice is larger than what 32 bits hold.
@@ -103,11 +89,6 @@ pub fn reread(heap: Global, command: &Command) -> Result<Command, Fault>
     ensures { Rereads command.now result }
 {
     holds_whole(command);
-    let Ok(line) = command.to_string(heap) else {
-        return Err(Fault::NoMemory);
-    };
-    match read(heap, line.as_bytes())? {
-        Line::Command(again) => Ok(again),
-        Line::Blank => unreachable(),
-    }
+    let line = command.to_string(heap)?;
+    Ok(read(heap, line.as_bytes())?.unwrap())
 }

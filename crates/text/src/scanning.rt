@@ -1,25 +1,23 @@
 // Numbers found in a line, each after a blank.
-ghost use Rattle.text.specs.Scanning.{Figures, NextNumber, OneNumber, TwoNumbers, Listed};
+ghost use Rattle.text.specs.Scanning.{Figures, NextNumber, Exactly, Listed};
 
 use crate::commands::Fault;
 use std::alloc::Global;
-
-// What no number of two digits or more begins with.
-const ZERO: u8 = b'0';
 
 // The number that the digits at the front write, at most `u32::MAX`, and how many digits there are.
 fn figures(bytes: &[u8]) -> (u32, usize)
     ensures { Figures bytes.now result.0 result.1 }
 {
-    let most = u64::from(u32::MAX);
-    let mut value = 0u64;
+    let mut value = 0u32;
     for (i, b) in bytes.iter().enumerate() {
         if !b.is_ascii_digit() {
-            return (value as u32, i);
+            return (value, i);
         }
-        value = (value * 10 + u64::from(*b - b'0')).min(most);
+        value = value
+            .saturating_mul(10)
+            .saturating_add(u32::from(*b - b'0'));
     }
-    (value as u32, bytes.len())
+    (value, bytes.len())
 }
 
 // The number after the blank that the text begins with, and what stands behind it.
@@ -30,30 +28,30 @@ fn next(text: &[u8]) -> Option<(u32, &[u8])>
         return None;
     };
     let (value, count) = figures(digits);
-    if count == 0 {
-        return None;
+    let (number, rest) = digits.split_at(count);
+    match number {
+        [] => None,
+        // No number of two digits or more begins so.
+        [b'0', _, ..] => None,
+        _ => Some((value, rest)),
     }
-    if count > 1 && digits[0] == ZERO {
-        return None;
-    }
-    Some((value, &digits[count..]))
 }
 
-// One number and nothing behind it.
-pub fn one(text: &[u8]) -> Option<u32>
-    ensures { OneNumber text.now result }
+// N numbers and nothing behind them.
+pub fn exactly<const N: usize>(text: &[u8]) -> Result<[u32; N], Fault>
+    ensures { Exactly N text.now result }
 {
-    let (n, rest) = next(text)?;
-    if rest.is_empty() { Some(n) } else { None }
-}
-
-// Two numbers and nothing behind them.
-pub fn two(text: &[u8]) -> Option<(u32, u32)>
-    ensures { TwoNumbers text.now result }
-{
-    let (first, rest) = next(text)?;
-    let second = one(rest)?;
-    Some((first, second))
+    let mut numbers = [0; N];
+    let mut rest = text;
+    for i in 0..N {
+        let (n, more) = next(rest).ok_or(Fault::Unreadable)?;
+        numbers[i] = n;
+        rest = more;
+    }
+    if !rest.is_empty() {
+        return Err(Fault::Unreadable);
+    }
+    Ok(numbers)
 }
 
 // All numbers, to the end of the text.
@@ -63,9 +61,7 @@ pub fn numbers(heap: Global, text: &[u8]) -> Result<Vec<u32>, Fault>
     let mut numbers = Vec::new(heap);
     let mut rest = text;
     while let Some((n, more)) = next(rest) {
-        if numbers.push(n).is_err() {
-            return Err(Fault::NoMemory);
-        }
+        numbers.push(n)?;
         rest = more;
     }
     if rest.is_empty() {

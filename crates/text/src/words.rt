@@ -1,6 +1,10 @@
 // The words that a command begins with.
-ghost use Rattle.std.specs.Prelude.{◌≡◌, MatchOption, ◌≢◌};
+ghost use Rattle.std.specs.Prelude.{◌≡◌, ◌≢◌, MatchResult, Some};
 ghost use Rattle.text.specs.Written.{spelling};
+ghost use Rattle.text.specs.declared.commands.Fault.TheVariants.{Unreadable};
+
+use crate::commands::Fault;
+use std::fmt;
 
 #[derive(Clone, Copy)]
 pub enum Word {
@@ -13,12 +17,11 @@ pub enum Word {
     Bags,
 }
 
-impl Word {
-    // How the word is written.
-    pub fn text(self) -> &'static str
-        ensures { result.now ≡ spelling self }
-    {
-        match self {
+impl fmt::Display for Word {
+    ghost output = { λ word. Some (spelling word) };
+
+    fn fmt<W: fmt::Write>(&self, f: &mut fmt::Formatter<W>) -> fmt::Result {
+        f.write_str(match self {
             Word::Rule => "rule",
             Word::Pans => "pans",
             Word::Ages => "ages",
@@ -26,22 +29,27 @@ impl Word {
             Word::Bag => "bag",
             Word::Fall => "fall",
             Word::Bags => "bags",
-        }
+        })
     }
+}
 
-    // The word that is written so.
-    pub fn of(name: &[u8]) -> Option<Word>
-        ensures { MatchOption result ((w : Word) → name.now ≢ spelling w) (λ w. name.now ≡ spelling w) }
-    {
+impl TryFrom<&[u8]> for Word {
+    type Error = Fault;
+
+    ghost use Rattle.text.specs.declared.words.Word.{Word};
+
+    ghost try_from_gives = { λ name r. MatchResult r (λ word. name.now ≡ spelling word) (λ fault. (fault ≡ Unreadable) × ((word : Word) → name.now ≢ spelling word)) };
+
+    fn try_from(name: &[u8]) -> Result<Word, Fault> {
         match name {
-            b"rule" => Some(Word::Rule),
-            b"pans" => Some(Word::Pans),
-            b"ages" => Some(Word::Ages),
-            b"handfuls" => Some(Word::Handfuls),
-            b"bag" => Some(Word::Bag),
-            b"fall" => Some(Word::Fall),
-            b"bags" => Some(Word::Bags),
-            _ => None,
+            b"rule" => Ok(Word::Rule),
+            b"pans" => Ok(Word::Pans),
+            b"ages" => Ok(Word::Ages),
+            b"handfuls" => Ok(Word::Handfuls),
+            b"bag" => Ok(Word::Bag),
+            b"fall" => Ok(Word::Fall),
+            b"bags" => Ok(Word::Bags),
+            _ => Err(Fault::Unreadable),
         }
     }
 }

@@ -8,17 +8,19 @@ use Rattle.text.proofs.reading.read.Goals.{After-word_end}
 blank : (c : After-word_end) → FirstBlank c.args.line.now c.word_end.result
 blank c = record { within = c.word_end.ensures.within; before = c.word_end.ensures.before; found = c.word_end.ensures.found }
 
-pub returns-in_default : goal.returns-in_default
-returns-in_default c =
-    (c.if-passed_over.ensures, no_word _ _ (blank (goal.at.returns-in_default c).After-word_end) (λ w e. c.in_default.ensures w (c.split_at.ensures.front ∙ e)))
+pub returns-in_err-word : goal.returns-in_err-word
+returns-in_err-word c =
+    let p = err_from_is_err_and c.from_residual.result c.from_residual.ensures.1 in
+    rw (p.1, p.2, c.in_err-word.ensures.0)
+    (c.if-passed_over.ensures, no_word _ _ (blank (goal.at.returns-in_err-word c).After-word_end) (λ w e. c.in_err-word.ensures.1 w (c.split_at.ensures.front ∙ e)))
 
 pub returns-in_err-command : goal.returns-in_err-command
 returns-in_err-command c =
-    let p = err_from_is_err_and c.from_residual.result c.from_residual.ensures.1 in
+    let p = err_from_is_err_and c.from_residual-in_err-command.result c.from_residual-in_err-command.ensures.1 in
     rw (p.1, p.2)
-    (unread _ _ (blank (goal.at.returns-in_err-command c).After-word_end) c.in-Some.word (sym c.split_at.ensures.front ∙ c.in-Some.ensures) _ c.split_at.ensures.back c.if-passed_over.ensures _ c.in_err-command.ensures)
+    (unread _ _ (blank (goal.at.returns-in_err-command c).After-word_end) c.in_ok-word.word (sym c.split_at.ensures.front ∙ c.in_ok-word.ensures) _ c.split_at.ensures.back c.if-passed_over.ensures _ c.in_err-command.ensures)
 
 pub returns : goal.returns
 returns c =
     let told = c.in_ok-command.ensures in
-    says _ _ (blank (goal.at.returns c).After-word_end) c.in-Some.word (sym c.split_at.ensures.front ∙ c.in-Some.ensures) c.in_ok-command.field-0 told.0 told.1.0 (sym c.split_at.ensures.back ∙ told.1.1) told.1.2
+    says _ _ (blank (goal.at.returns c).After-word_end) c.in_ok-word.word (sym c.split_at.ensures.front ∙ c.in_ok-word.ensures) c.in_ok-command.field-0 told.0 told.1.0 (sym c.split_at.ensures.back ∙ told.1.1) told.1.2

@@ -9,5 +9,5 @@ use Rattle.text.proofs.replies.put_open.Goals as goal
 pub returns : goal.returns
 returns g c = λ plain ok.
     put_then (c.in_ok-write_str.ensures.writes plain refl)
-    (λ still. put_then {t = spaced (pans_below 32 c.args.pans) ++ (codes ": " ++ numeral c.args.weight)} (c.in_ok-put_pans.ensures still refl) (λ on. c.write.ensures.writes on ok) (rw (decimal_is c.args.weight (omega arith))))
+    (λ still. put_then {t = spaced (pans_below 32 c.args.bag.pans) ++ (codes ": " ++ numeral c.args.bag.weight)} (c.in_ok-put_pans.ensures still refl) (λ on. c.write.ensures.writes on ok) (rw (decimal_is c.args.bag.weight (omega arith))))
     refl

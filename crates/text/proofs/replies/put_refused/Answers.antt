@@ -1,11 +1,10 @@
 -- The number and the place in decimal.
 use Rattle.std.proofs.Common.{arith}
-use Rattle.std.proofs.Output.{has_written_of_eq}
 use Rattle.text.proofs.Numerals.{decimal_is}
+use Rattle.text.proofs.Printing.{put_as}
 use Rattle.text.proofs.replies.put_refused.Goals as goal
 
 pub returns : goal.returns
 returns g c = λ plain ok.
-    has_written_of_eq g.W.Write.write_str_gives _ _ _ _
-    (rw (decimal_is c.args.number (omega arith), decimal_is c.args.place (omega arith)))
-    (c.write.ensures.writes plain ok)
+    put_as (c.write.ensures.writes plain ok)
+    (rw (decimal_is c.number-number.result (omega arith), decimal_is c.place-place.result (omega arith), c.number-number.ensures, c.place-place.ensures))

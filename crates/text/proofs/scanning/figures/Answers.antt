@@ -7,4 +7,4 @@ use Rattle.text.proofs.scanning.figures.Goals as goal
 pub loop-i-preserved : goal.loop-i-preserved
 loop-i-preserved c =
     let digit : IsInRange 48 57 (get_or c.args.bytes.now c.loop-i.i 0) = c.if-not-is_ascii_digit.ensures.cases in
-    (more_digits c.args.bytes.now c.loop-i.i c.loop-i-test.true digit c.loop-i.invariant.0, rw (c.min-value.ensures, c.from.ensures, c.from-most.ensures) (more_value c.args.bytes.now c.loop-i.i c.loop-i-test.true digit c.loop-i.value c.loop-i.invariant.1))
+    (more_digits c.args.bytes.now c.loop-i.i c.loop-i-test.true digit c.loop-i.invariant.0, rw (c.saturating_add-value.ensures, c.saturating_mul.ensures, c.from.ensures) (more_value c.args.bytes.now c.loop-i.i c.loop-i-test.true digit c.loop-i.value c.loop-i.invariant.1))
