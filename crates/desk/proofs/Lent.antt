@@ -2,7 +2,7 @@
 use Rattle.std.proofs.Common.{◌≡◌, ℕ, List, Option}
 use Rattle.seasons.specs.Fall.{fall_refusal}
 use Rattle.text.specs.declared.replies.Reply.{Reply}
-use Rattle.desk.specs.Answers.{Bagged, PlayedSo, FellSo}
+use Rattle.desk.specs.Replies.{Bagged, PlayedSo, FellSo}
 
 pub bagged_at :
     {rs rs' ws ws' as' as'' ws₁ ws₁' as₁ as₁' : List ℕ} {m m' : ℕ} {r : Reply} → Bagged rs ws as' m ws₁ as₁ r →

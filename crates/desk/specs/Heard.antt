@@ -8,7 +8,7 @@ use Rattle.text.specs.Reading.{Passed, Says, Unwritten}
 use Rattle.text.specs.declared.commands.Command.{Command}
 use Rattle.text.specs.declared.commands.Fault.{Fault}
 use Rattle.text.specs.declared.replies.Reply.{Reply}
-use Rattle.desk.specs.Answers.{refused}
+use Rattle.text.specs.declared.replies.Reply.TheVariants.{Refused}
 use Rattle.desk.specs.Kept.{State}
 use Rattle.desk.specs.Obeys.{Obeys}
 
@@ -20,7 +20,7 @@ pub record Quiet (bs : List ℕ) (s t : State) (r : Option Reply) : Type 0 where
 pub record Unread (bs : List ℕ) (number : ℕ) (s t : State) (r : Option Reply) : Type 0 where
   pub heard : Passed bs → ⊥
   pub unwritten : Unwritten bs
-  pub said : r ≡ Some (refused (Line number))
+  pub said : r ≡ Some (Refused (Line number))
   pub same : t ≡ s
 
 pub record Obeyed (bs : List ℕ) (number : ℕ) (s t : State) (r : Option Reply) : Type 0 where

@@ -1,5 +1,5 @@
 -- The definitions that contracts cite.
-pub mod Answers
+pub mod Replies
 pub mod Heard
 pub mod Kept
 pub mod Obeys

@@ -4,7 +4,7 @@ use Rattle.seasons.specs.Fall.{fall_refusal}
 use Rattle.text.specs.declared.commands.Command.{Command}
 use Rattle.text.specs.declared.commands.Command.TheVariants.{Rule, Pans, Ages, Handfuls, Bag, Fall, Bags}
 use Rattle.text.specs.declared.replies.Reply.{Reply}
-use Rattle.desk.specs.Answers.{Bagged, PlayedSo, FellSo}
+use Rattle.desk.specs.Replies.{Bagged, PlayedSo, FellSo}
 use Rattle.desk.specs.Kept.{State}
 
 -- what was neither asked for nor lent stays as it was

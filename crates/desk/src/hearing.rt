@@ -2,12 +2,11 @@
 ghost use Rattle.desk.specs.Heard.{Heard};
 ghost use Rattle.desk.specs.Kept.{state_of};
 
-use crate::answers::refused;
 use crate::kept::Desk;
 use crate::obeying::obey;
-use packing::Refusal;
+use answers::Refusal;
 use std::alloc::Global;
-use text::{Fault, Line, Reply, read};
+use text::{Fault, Reply, read};
 
 // What is answered to a line, given without its end, and by its number from 0 on: nothing where there is nothing to say.
 // A fault is want of memory, and then nothing changes.
@@ -15,13 +14,9 @@ pub fn hear(desk: &mut Desk, heap: Global, line: &[u8], number: u64) -> Result<O
     ensures { Heard line.now number (state_of desk.old) (state_of desk.new) result }
 {
     match read(heap, line) {
-        Ok(what) => match what {
-            Line::Blank => Ok(None),
-            Line::Command(command) => Ok(obey(desk, command, number)),
-        },
-        Err(fault) => match fault {
-            Fault::Unreadable => Ok(Some(refused(Refusal::Line(number)))),
-            Fault::NoMemory => Err(fault),
-        },
+        Ok(None) => Ok(None),
+        Ok(Some(command)) => Ok(obey(desk, command, number)),
+        Err(Fault::Unreadable) => Ok(Some(Reply::Refused(Refusal::Line(number)))),
+        Err(Fault::NoMemory) => Err(Fault::NoMemory),
     }
 }

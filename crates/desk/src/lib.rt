@@ -1,10 +1,10 @@
 // The desk: what the program keeps between its lines, and what it answers to each.
 #![tactic(auto)]
 
-mod answers;
 mod hearing;
 mod kept;
 mod obeying;
+mod replies;
 
 pub use hearing::hear;
 pub use kept::{Desk, empty_desk};

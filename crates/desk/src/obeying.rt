@@ -2,8 +2,8 @@
 ghost use Rattle.desk.specs.Kept.{state_of};
 ghost use Rattle.desk.specs.Obeys.{Obeys};
 
-use crate::answers::{bag_reply, fall_reply, season_reply};
 use crate::kept::Desk;
+use crate::replies::{bag_reply, fall_reply, season_reply};
 use text::{Command, Reply};
 
 // Does what a command asks for, and answers what is printed; the line is where it stands.

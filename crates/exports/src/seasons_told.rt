@@ -4,6 +4,7 @@ ghost use Rattle.choices.specs.Ruled.{rule_in};
 ghost use Rattle.seasons.specs.Season.{season_refusal};
 
 use crate::told::Told;
+use engines::Rooms;
 use seasons::season;
 
 // Plays so many bags in lent rooms, with the list's handfuls in between.
@@ -19,7 +20,8 @@ pub extern "C" fn weigh_season(
 ) -> Told
     ensures { SeasonTold (season_refusal rule.now weights.old ages.old handfuls.now bags 0) (rule_in rule.now) handfuls.now bags weights.old ages.old weights.new ages.new result }
 {
-    match season(rule, weights, ages, handfuls, bags, 0, entries, bytes) {
+    let mut rooms = Rooms { entries, bytes };
+    match season(rule, weights, ages, handfuls, bags, 0, &mut rooms) {
         Ok(played) => Told {
             refusal: 0,
             bags: u64::from(played.bags),

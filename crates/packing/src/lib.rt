@@ -2,6 +2,7 @@
 #![tactic(auto)]
 
 mod entry;
+mod finding;
 mod laws;
 mod marks;
 mod one_bag;
@@ -9,6 +10,7 @@ mod refusal;
 
 pub use answers::Refusal;
 pub use entry::{bag, bag_in};
+pub use finding::find;
 pub use laws::{entries_agree, refusals_are_exact};
 pub use one_bag::pack;
 pub use refusal::{checked, checked_in, first_above};

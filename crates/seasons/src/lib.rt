@@ -5,6 +5,6 @@ mod falling;
 mod handfuls;
 mod seasons;
 
-pub use falling::fall;
 pub use answers::Played;
+pub use falling::fall;
 pub use seasons::season;

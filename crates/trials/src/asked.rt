@@ -1,5 +1,4 @@
 // What the entries and the engines answer to a case.
-ghost use Rattle.packing.specs.Refusals.{Ready};
 ghost use Rattle.trials.specs.Counted.{one_more};
 ghost use Rattle.std.specs.Prelude.{◌≡◌};
 
@@ -7,115 +6,49 @@ use crate::case::Case;
 use crate::outcome::{Answer, Outcome};
 use crate::plain::all_tried;
 use crate::scores::Scores;
-use choices::{Ring, Rule};
-use order::Bag;
-use packing::{Done, bag, bag_in, rule_in, turned_away};
-
-#[derive(Clone, Copy)]
-enum Engine {
-    Scan,
-    Halves,
-    Table,
-}
+use engines::Rooms;
+use finders::{Finder, Halves, Scan, Table};
+use packing::{bag, bag_in, checked, find};
 
 // The table is asked for bags up to this weight: those of the trade, and some beyond.
 const TABLE_WEIGHT: u32 = 10_000;
 
-fn entry_answer(done: Done) -> Answer {
-    match done {
-        Done::Bag(pans, weight) => Answer::Bag(pans, weight),
-        Done::None => Answer::None,
-        Done::Refused(number) => Answer::Refused(number),
-    }
-}
-
-fn engine_answer(found: Option<Bag>) -> Answer {
-    match found {
-        Some(bag) => Answer::Bag(bag.pans, bag.weight),
-        None => Answer::None,
-    }
-}
-
-// The entry that takes no room.
-fn by_entry(case: &Case) -> Outcome {
+// What an entry answers, and what it leaves in the pans.
+fn by_entry<E: FnOnce(&mut [u32], &mut [u32]) -> Answer>(case: &Case, entry: E) -> Outcome
+    requires { E.IsAlwaysCallable entry }
+{
     let mut weights = case.weights;
     let mut ages = case.ages;
-    let done = bag(
-        &case.rule,
-        &mut weights[0..case.pans],
-        &mut ages[0..case.pans],
-    );
+    let answer = entry(&mut weights[..case.pans], &mut ages[..case.pans]);
     Outcome {
-        answer: entry_answer(done),
+        answer,
         weights,
         ages,
     }
+}
+
+// What an engine finds; nothing where the case is turned away.
+fn by_engine<F: Finder>(case: &Case, finder: &mut F) -> Option<Answer> {
+    let weights = case.weights();
+    let ages = case.ages();
+    if checked(&case.rule, weights, ages).is_err() {
+        return None;
+    }
+    Some(find(&case.rule, weights, ages, finder))
+}
+
+// Whether a bag is light enough to ask the table for it.
+fn suits_the_table(case: &Case) -> bool {
+    let [target, above, _, _] = case.rule;
+    target.saturating_add(above) <= TABLE_WEIGHT
 }
 
 // The entry over lent rooms.
 fn by_entry_in(case: &Case, entries: &mut [u64], bytes: &mut [u8]) -> Outcome {
-    let mut weights = case.weights;
-    let mut ages = case.ages;
-    let done = bag_in(
-        &case.rule,
-        &mut weights[0..case.pans],
-        &mut ages[0..case.pans],
-        entries,
-        bytes,
-    );
-    Outcome {
-        answer: entry_answer(done),
-        weights,
-        ages,
-    }
-}
-
-// One engine, of a ring that is in order.
-fn decide<'a>(
-    engine: Engine,
-    rule: Rule,
-    weights: &'a [u32],
-    ages: &'a [u32],
-    entries: &mut [u64],
-    bytes: &mut [u8],
-) -> Answer
-    requires { Ready rule weights.now ages.now }
-{
-    let ring = Ring {
-        rule,
-        weights,
-        ages,
-    };
-    match engine {
-        Engine::Scan => engine_answer(search::best(ring)),
-        Engine::Halves => {
-            if halves::room_for(weights.len()) > entries.len() {
-                return Answer::NoRoom;
-            }
-            engine_answer(halves::best(ring, entries))
-        }
-        Engine::Table => {
-            if table::room_for(ring) > bytes.len() {
-                return Answer::NoRoom;
-            }
-            engine_answer(table::best(ring, bytes))
-        }
-    }
-}
-
-// The same of any case; nothing where it is turned away, or too heavy for the table.
-fn by_engine(engine: Engine, case: &Case, entries: &mut [u64], bytes: &mut [u8]) -> Option<Answer> {
-    let weights = &case.weights[0..case.pans];
-    let ages = &case.ages[0..case.pans];
-    if let Some(_) = turned_away(&case.rule, weights, ages) {
-        return None;
-    }
-    let rule = rule_in(&case.rule);
-    let most = rule.target.saturating_add(rule.above);
-    if matches!(engine, Engine::Table) && most > TABLE_WEIGHT {
-        return None;
-    }
-    Some(decide(engine, rule, weights, ages, entries, bytes))
+    let mut rooms = Rooms { entries, bytes };
+    by_entry(case, |weights, ages| {
+        bag_in(&case.rule, weights, ages, &mut rooms)
+    })
 }
 
 // Goes every way with a case, beside all choices tried.
@@ -125,20 +58,23 @@ pub fn try_case(scores: &mut Scores, case: &Case, entries: &mut [u64], bytes: &m
     ensures halves { scores.new.bag_by_halves.tried ≡ one_more scores.old.bag_by_halves.tried }
 {
     let expected = all_tried(case);
-    scores.bag.note(by_entry(case) == expected);
+    let scanned = by_entry(case, |weights, ages| bag(&case.rule, weights, ages));
+    scores.bag.note(scanned == expected);
     scores
         .bag_by_table
         .note(by_entry_in(case, entries, bytes) == expected);
     scores
         .bag_by_halves
         .note(by_entry_in(case, entries, &mut bytes[0..0]) == expected);
-    if let Some(answer) = by_engine(Engine::Scan, case, entries, bytes) {
+    if let Some(answer) = by_engine(case, &mut Scan) {
         scores.scan.note(answer == expected.answer);
     }
-    if let Some(answer) = by_engine(Engine::Halves, case, entries, bytes) {
+    if let Some(answer) = by_engine(case, &mut Halves { entries }) {
         scores.halves.note(answer == expected.answer);
     }
-    if let Some(answer) = by_engine(Engine::Table, case, entries, bytes) {
-        scores.table.note(answer == expected.answer);
+    if suits_the_table(case) {
+        if let Some(answer) = by_engine(case, &mut Table { bytes }) {
+            scores.table.note(answer == expected.answer);
+        }
     }
 }

@@ -3,6 +3,7 @@ ghost use Rattle.std.specs.Prelude.{◌≤◌};
 
 pub const MOST: usize = 12;
 
+// Arrays with a number beside them, so that a case is copied and none asks for memory.
 #[derive(Clone, Copy)]
 pub struct Case {
     pub rule: [u32; 4],
@@ -10,4 +11,20 @@ pub struct Case {
     pub ages: [u32; 12],
     pub pans: usize,
     ghost few: { pans ≤ 12 },
+}
+
+impl Case {
+    ghost use Rattle.std.specs.Prelude.{◌≡◌, length};
+
+    pub fn weights(&self) -> &[u32]
+        ensures { length result.now ≡ self.now.pans }
+    {
+        &self.weights[..self.pans]
+    }
+
+    pub fn ages(&self) -> &[u32]
+        ensures { length result.now ≡ self.now.pans }
+    {
+        &self.ages[..self.pans]
+    }
 }

@@ -1,13 +1,9 @@
 // What comes of a case.
-#[derive(Clone, Copy, PartialEq, Eq)]
-pub enum Answer {
-    // The pans that are opened, as a number, and what the bag weighs.
-    Bag(u32, u32),
-    None,
-    Refused(u64),
-    // The lent room was not enough, which is never expected.
-    NoRoom,
-}
+use order::Bag;
+use packing::Refusal;
+
+// The best bag, that no choice fits, or why nothing was taken.
+pub type Answer = Result<Option<Bag>, Refusal>;
 
 #[derive(Clone, Copy, PartialEq, Eq)]
 pub struct Outcome {

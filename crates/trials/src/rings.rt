@@ -109,9 +109,9 @@ pub fn random_case(dice: &mut Dice) -> Case
     let pans = (dice.below(12) as usize + 1).min(MOST);
     let mut weights = [0; 12];
     let mut ages = [0; 12];
-    for pan in 0..pans {
-        weights[pan] = scale.weight(dice);
-        ages[pan] = dice.below(7);
+    for (w, age) in weights.iter_mut().zip(ages.iter_mut()).take(pans) {
+        *w = scale.weight(dice);
+        *age = dice.below(7);
     }
     let rule = rule(dice, scale);
     let mut case = Case {

@@ -3,6 +3,7 @@ ghost use Rattle.std.specs.Prelude.{◌≡◌};
 
 use crate::case::Case;
 use crate::outcome::Answer;
+use order::Bag;
 
 #[derive(Clone, Copy)]
 pub struct Worked {
@@ -17,25 +18,34 @@ pub const WORKED: [Worked; 4] = [
     Worked {
         rule: [100, 10, 4, 9],
         waited: 0,
-        answer: Answer::Bag(204, 100),
+        answer: Ok(Some(Bag {
+            pans: 204,
+            weight: 100,
+        })),
     },
     // Pans 3, 4 and 6, since three may be opened.
     Worked {
         rule: [100, 10, 3, 9],
         waited: 0,
-        answer: Answer::Bag(88, 102),
+        answer: Ok(Some(Bag {
+            pans: 88,
+            weight: 102,
+        })),
     },
     // Pans 0, 1, 3 and 7, since pan 1 is old.
     Worked {
         rule: [100, 10, 4, 3],
         waited: 3,
-        answer: Answer::Bag(139, 101),
+        answer: Ok(Some(Bag {
+            pans: 139,
+            weight: 101,
+        })),
     },
     // No two pans weigh just so much.
     Worked {
         rule: [100, 0, 2, 9],
         waited: 0,
-        answer: Answer::None,
+        answer: Ok(None),
     },
 ];
 

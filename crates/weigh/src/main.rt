@@ -9,16 +9,15 @@ fn run(rt: &HostRuntime) -> anyhow::Result<()> {
     let heap = rt.alloc();
     let mut desk = empty_desk(heap)?;
     let mut out = BufWriter::new(heap, rt.stdout())?;
-    let mut number = 0u64;
-    for line in BufReader::new(heap, rt.stdin())?.split(heap, b'\n') {
+    let lines = BufReader::new(heap, rt.stdin())?.split(heap, b'\n');
+    for (number, line) in lines.enumerate() {
         let line = line?;
-        let Ok(answer) = hear(&mut desk, heap, &line, number) else {
+        let Ok(answer) = hear(&mut desk, heap, &line, number as u64) else {
             return Err(anyhow!("no memory for a line"));
         };
         if let Some(reply) = answer {
             writeln!(out, "{reply}")?;
         }
-        number = number.saturating_add(1);
     }
     out.flush()?;
     Ok(())

@@ -15,4 +15,4 @@ returns-clause-promises c =
     let ws₁ = c.play.new.weights in
     let as₁ = c.play.new.ages in
     kept c.args.rule.now hs ws as' ws₁ as₁ c.args.bags c.play.result f.taken f.small
-      (subst (λ (r : Rule). Plays r hs c.args.bags ws as' ws₁ as₁ c.play.result) (passed_as _ _ _ f.value).1 c.play.ensures)
+    (subst (λ (r : Rule). Plays r hs c.args.bags ws as' ws₁ as₁ c.play.result) (passed_as _ _ _ f.value).1 c.play.ensures)
