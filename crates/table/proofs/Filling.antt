@@ -1,6 +1,9 @@
 -- Rows that are filled from the last pan to the first: what one row more keeps and adds.
-use Rattle.std.proofs.Common.{◌≡◌, ℕ, zero, suc, ◌+◌, ◌-◌, ◌*◌, ◌<◌, ◌≤◌, min, true, false, ◌&&◌, ◌||◌, ltb, leb, ◌⊎◌, List, [], ◌∷◌, length, get_or, drop, sym, refl, inl, inr, mul-le-mul_left, mul-one, mul-add, arith}
-use Rattle.std.proofs.lemmas.List.{drop-drop, drop_all, drop_more}
+use Rattle.std.proofs.Common.{◌≡◌, ℕ, zero, suc, ◌+◌, ◌-◌, ◌*◌, ◌<◌, ◌≤◌, min, true, false, ◌&&◌, ◌||◌, ltb, leb, ◌⊎◌, List, [], ◌∷◌, length, get_or, drop, sym, refl, ◌∙◌, ◌++◌, append_assoc, length-append, inl, inr, Iter, None, mul-le-mul_left, mul-one, mul-add, arith}
+use Rattle.std.specs.declared.iter.Zip.{Zip}
+use Rattle.std.specs.Slice.Iter.{iter_rest, iter_steps_back}
+use Rattle.std.specs.Iterator.Adapters.{zip_first, zip_second, zip_steps_back}
+use Rattle.std.proofs.lemmas.List.{append-nil, drop-drop, drop_all, drop_more, get_or_at, get_or_append_left}
 use Rattle.std.proofs.lemmas.Bool.{cases_lt, and_parts, both_ways, le-ltb, lt-ltb, le-leb, lt-leb}
 use Rattle.choices.specs.Choice.{bit}
 use Rattle.table.specs.Pans.{free_pans, none_due_empty}
@@ -156,16 +159,116 @@ module _ (old : ℕ) (ws as' : List ℕ) (i : ℕ) (few : i < length ws) (paired
       whole : Row old (drop i ws) (drop i as') most (top + wide) bytes'
       whole = rw (drop_weights, drop_ages) (row_free e f older without with)
 
--- there is room for a row more wherever a pan is left that wants one
-pub filling_room :
-    {old : ℕ} {ws as' : List ℕ} {most wide pan top : ℕ} {bytes : List ℕ} → Filling old ws as' most wide pan top bytes → 0 < pan → pan ≤ length ws →
-    length as' ≡ length ws → get_or as' (pan - 1) 0 < old → 0 < get_or ws (pan - 1) 0 → top + wide + wide ≤ wide * (free_pans old ws as' + 1)
-filling_room {old} {ws} {as'} {most} {wide} {pan} {top} h some few paired young full =
-    let i : ℕ = pan - 1 in
-    let here : i + 1 ≡ pan = omega arith in
-    let e = lt-ltb (get_or as' i 0) old young in
-    let f = le-leb 1 (get_or ws i 0) (omega arith) in
-    let n : free_pans old (drop i ws) (drop i as') ≡ 1 + free_pans old (drop (i + 1) ws) (drop (i + 1) as') = rw (e, f) at (free_next old ws as' i (omega arith) paired) in
-    let last : free_pans old (drop i ws) (drop i as') ≡ 1 + free_pans old (drop pan ws) (drop pan as') = rw here at n in
-    let m : free_pans old (drop pan ws) (drop pan as') + 1 ≤ free_pans old ws as' = omega (arith, last, free_drop_le old i ws as') in
-    omega (arith, mul-add wide (free_pans old (drop pan ws) (drop pan as')) 1, mul-add wide (free_pans old ws as') 1, mul-one wide, mul-le-mul_left wide m, h.at)
+  -- there is room for it
+  pub filling_room :
+      {most wide top : ℕ} {bytes : List ℕ} → ltb (get_or as' i 0) old ≡ true → leb 1 (get_or ws i 0) ≡ true →
+      Filling old ws as' most wide (i + 1) top bytes → top + wide + wide ≤ wide * (free_pans old ws as' + 1)
+  filling_room {most} {wide} {top} e f h =
+      let n : free_pans old (drop i ws) (drop i as') ≡ 1 + free_pans old (drop (i + 1) ws) (drop (i + 1) as') = rw (e, f) at free_next in
+      let m : free_pans old (drop (i + 1) ws) (drop (i + 1) as') + 1 ≤ free_pans old ws as' = omega (arith, n, free_drop_le old i ws as') in
+      omega (arith, mul-add wide (free_pans old (drop (i + 1) ws) (drop (i + 1) as')) 1, mul-add wide (free_pans old ws as') 1, mul-one wide, mul-le-mul_left wide m, h.at)
+
+-- ---- gone over from the back
+
+-- the front of a list
+pub record Front (us xs : List ℕ) : Type 0 where
+  pub rest : List ℕ
+  pub is : us ++ rest ≡ xs
+
+pub front_all : (xs : List ℕ) → Front xs xs
+front_all xs = record { rest = []; is = append-nil xs }
+
+front_less :
+    {us us' xs : List ℕ} {x : ℕ} → us ≡ us' ++ x ∷ [] → Front us xs → Front us' xs × (length us ≡ length us' + 1) × (length us' < length xs) × (get_or xs (length us') 0 ≡ x)
+front_less {us} {us'} {xs} {x} e h = (
+  record { rest = x ∷ h.rest; is = is },
+  rw e (omega (arith, length-append us' (x ∷ []))),
+  rw (← is) (omega (arith, length-append us' (x ∷ h.rest))),
+  rw (← is) (get_or_at us' x h.rest 0 (length us') refl),
+)
+  where
+    is : us' ++ x ∷ h.rest ≡ xs
+    is = sym (append_assoc us' (x ∷ []) h.rest) ∙ (rw e at h.is)
+
+-- the pans in us and vs are left
+pub record Left (old : ℕ) (ws as' : List ℕ) (most wide : ℕ) (us vs : List ℕ) (top : ℕ) (bytes : List ℕ) : Type 0 where
+  pub paired : length vs ≡ length us
+  pub weights : Front us ws
+  pub ages : Front vs as'
+  pub filled : Filling old ws as' most wide (length us) top bytes
+
+-- all of them are
+pub left_all :
+    {old : ℕ} {ws as' us vs : List ℕ} {most wide : ℕ} (bytes behind : List ℕ) → us ≡ ws → vs ≡ as' → length as' ≡ length ws → most < length bytes → get_or bytes 0 0 ≡ 0 →
+    ((x : ℕ) → 1 ≤ x → x < length bytes → get_or bytes x 0 ≡ 255) → Left old ws as' most wide us vs 0 (bytes ++ behind)
+left_all {old} {ws} {as'} {most = most} {wide} bytes behind e f paired long none rest =
+    rw (e, f) (record { paired = paired; weights = front_all ws; ages = front_all as'; filled = filling_none old ws as' most wide (bytes ++ behind) paired first others })
+  where
+    first : get_or (bytes ++ behind) 0 0 ≡ 0
+    first = get_or_append_left bytes behind 0 0 (omega arith) ∙ none
+
+    others : (x : ℕ) → 1 ≤ x → x < most + 1 → get_or (bytes ++ behind) x 0 ≡ 255
+    others x low high = get_or_append_left bytes behind 0 x (omega arith) ∙ rest x low (omega arith)
+
+-- the last of them is gone over, and leaves those before it
+pub record Next (old : ℕ) (ws as' : List ℕ) (most wide : ℕ) (us vs : List ℕ) (w a top : ℕ) (bytes : List ℕ) : Type 0 where
+  pub few : length us < length ws
+  pub weight : get_or ws (length us) 0 ≡ w
+  pub age : get_or as' (length us) 0 ≡ a
+  pub before : Filling old ws as' most wide (length us + 1) top bytes
+  pub after : {top' : ℕ} {bytes' : List ℕ} → Filling old ws as' most wide (length us) top' bytes' → Left old ws as' most wide us vs top' bytes'
+
+pub left_next :
+    {old : ℕ} {ws as' : List ℕ} {most wide : ℕ} {us vs us' vs' : List ℕ} {w a top : ℕ} {bytes : List ℕ} → Left old ws as' most wide us vs top bytes →
+    (length us - length vs ≡ 0 → us ≡ us' ++ w ∷ []) → (length vs - length us ≡ 0 → vs ≡ vs' ++ a ∷ []) → Next old ws as' most wide us' vs' w a top bytes
+left_next {us' = us'} {vs' = vs'} h e f =
+    let u = front_less (e (omega (arith, h.paired))) h.weights in
+    let v = front_less (f (omega (arith, h.paired))) h.ages in
+    let same : length vs' ≡ length us' = omega (arith, h.paired, u.1, v.1) in
+    record {
+      few = u.2;
+      weight = u.3;
+      age = rw same at v.3;
+      before = rw u.1 at h.filled;
+      after = λ more. record { paired = same; weights = u.0; ages = v.0; filled = more };
+    }
+
+module _
+    {old most wide w a top : ℕ} {ws as' us vs bytes : List ℕ} (n : Next old ws as' most wide us vs w a top bytes) (paired : length as' ≡ length ws)
+  where
+    pub left_skip : most < wide → none_due_empty old ws as' ≡ true → ((a < old) × (w ≤ 0)) ⊎ (old ≤ a) → Left old ws as' most wide us vs top bytes
+    left_skip less ready kind =
+        n.after (filling_skip old ws as' (length us) n.few paired less (rowless old ws as' (length us) n.few paired ready (rw (n.weight, n.age) kind)) n.before)
+
+    module _ (young : a < old) (full : 0 < w) where
+      e : ltb (get_or as' (length us) 0) old ≡ true
+      e = rw n.age (lt-ltb a old young)
+
+      f : leb 1 (get_or ws (length us) 0) ≡ true
+      f = rw n.weight (le-leb 1 w (omega arith))
+
+      pub left_room : top + wide + wide ≤ wide * (free_pans old ws as' + 1)
+      left_room = filling_room old ws as' (length us) n.few paired e f n.before
+
+      pub left_add :
+          {bytes' : List ℕ} → most < wide → ((j : ℕ) → j < top + wide → get_or bytes' j 0 ≡ get_or bytes j 0) →
+          ((x : ℕ) → x ≤ most → x < w → get_or bytes' (top + wide + x) 0 ≡ get_or bytes (top + x) 0) →
+          ((x : ℕ) → x ≤ most → w ≤ x → get_or bytes' (top + wide + x) 0 ≡ min (get_or bytes (top + x) 0) (min (get_or bytes (top + (x - w)) 0 + 1) 255)) →
+          Left old ws as' most wide us vs (top + wide) bytes'
+      left_add less same without with =
+          n.after (filling_add old ws as' (length us) n.few paired less e f n.before same (rw n.weight without) (rw n.weight with))
+
+-- none is left
+pub left_none :
+    {old : ℕ} {ws as' : List ℕ} {most wide top : ℕ} {bytes : List ℕ} {s t : Zip (Iter ℕ) (Iter ℕ)} →
+    Left old ws as' most wide (iter_rest (zip_first s)) (iter_rest (zip_second s)) top bytes →
+    zip_steps_back iter_steps_back iter_steps_back (λ u. length (iter_rest u)) (λ u. length (iter_rest u)) s None t → Rows old ws as' most wide 0 bytes
+left_none {old} {ws} {as'} {most} {wide} {bytes = bytes} {s = s} {t} h steps = at (cases_lt 0 (length (iter_rest (zip_first s))))
+  where
+    at : (0 < length (iter_rest (zip_first s))) ⊎ (length (iter_rest (zip_first s)) ≤ 0) → Rows old ws as' most wide 0 bytes
+    at (inl some) =
+        elim (steps.1 (omega (arith, h.paired))) [
+          | inl n ↦ absurd (omega (arith, (n.3 (omega (arith, h.paired))).0))
+          | inr n ↦ absurd (omega (arith, (n.3 (omega (arith, h.paired))).0, h.paired))
+        ]
+    at (inr none) = let e : length (iter_rest (zip_first s)) ≡ 0 = omega arith in rw e at h.filled.rows
