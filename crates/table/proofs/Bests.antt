@@ -8,7 +8,7 @@ use Rattle.choices.proofs.Choices.{Fitting, fitting, fits_from}
 use Rattle.order.specs.Order.{better, first_more, NoneOf, BestBag}
 use Rattle.table.specs.Pans.{due_weight, due_pans, free_weight, free_pans, none_due_empty, span_of, row_bytes, table_bytes}
 use Rattle.table.specs.Rows.{Makes, Row, Rows, Read, Lightest, LightestAt}
-use Rattle.table.specs.Surveyed.{Surveyed, LeavesABag, Laid}
+use Rattle.table.specs.Surveyed.{Surveyed}
 use Rattle.table.specs.declared.survey.Survey.{Survey}
 use Rattle.table.proofs.Making.{due_le}
 use Rattle.table.proofs.Surveying.{span_is}
@@ -181,45 +181,27 @@ best_found {r} {ws} {as'} {most} {start} {from} {limit} {x} {number} {bytes} t h
 
 -- ---- what the look over the ring tells of all this
 
-pub leaves_from :
-    {r : Rule} {ws as' : List ℕ} {s : Survey} → Surveyed r.age ws as' s →
-    (s.ready && (leb s.held r.pans && leb s.due (r.target + r.above))) ≡ true → LeavesABag r ws as'
-leaves_from {r} {s = s} h test =
+pub rows_fit :
+    (r : Rule) {ws as' : List ℕ} {s : Survey} {most long : ℕ} → Surveyed r.age ws as' s → most ≡ min (r.target + r.above - s.due) s.free →
+    table_bytes r ws as' ≤ long → row_bytes most * (free_pans r.age ws as' + 1) ≤ long
+unfolding table_bytes
+rows_fit r {ws} {as'} {s} h is enough = rw (is ∙ span_is r ws as' s h) enough
+
+pub window :
+    {r : Rule} {ws as' : List ℕ} {s : Survey} {most from limit : ℕ} {bytes : List ℕ} → Surveyed r.age ws as' s →
+    (s.ready && (leb s.held r.pans && leb s.due (r.target + r.above))) ≡ true → length as' ≡ length ws → length ws ≤ 24 →
+    most ≡ min (r.target + r.above - s.due) s.free → Rows r.age ws as' most (row_bytes most) 0 bytes →
+    from ≡ r.target - s.due → limit ≡ min (r.pans - s.held) 254 → Window r ws as' most (row_bytes most * s.rows) from limit bytes
+window {r} {ws} {as'} {s} h test paired small is rows enough few =
     let p = and_parts s.ready _ test in
     let q = and_parts (leb s.held r.pans) _ p.1 in
     record {
-      filled = sym h.ready ∙ p.0;
-      few = omega (arith, leb-true s.held r.pans q.0, h.held);
-      light = omega (arith, leb-true s.due (r.target + r.above) q.1, h.due);
-    }
-
-pub laid :
-    {r : Rule} {ws as' : List ℕ} {s : Survey} {most long : ℕ} → Surveyed r.age ws as' s → r.target ≤ 1000000 → r.above ≤ 1000000 →
-    most ≡ min (r.target + r.above - s.due) s.free → table_bytes r ws as' ≤ long → Laid r ws as' most (row_bytes most * s.rows) long
-unfolding table_bytes
-laid {r} {ws} {as'} {s} {most} h target above is enough =
-    let span = is ∙ span_is r ws as' s h in
-    let room = rw (sym span) at enough in
-    record {
-      span = span;
-      small = omega arith;
-      enough = room;
-      top = rw h.rows refl;
-      last = rw h.rows (omega (arith, room, mul-add (row_bytes most) (free_pans r.age ws as') 1, mul-one (row_bytes most)));
-    }
-
-pub window :
-    {r : Rule} {ws as' : List ℕ} {s : Survey} {most start long from limit : ℕ} {bytes : List ℕ} → Surveyed r.age ws as' s → LeavesABag r ws as' →
-    Laid r ws as' most start long → length as' ≡ length ws → length ws ≤ 24 → Rows r.age ws as' most (row_bytes most) 0 bytes →
-    from ≡ r.target - s.due → limit ≡ min (r.pans - s.held) 254 → Window r ws as' most start from limit bytes
-window h leaves t paired small rows enough few =
-    record {
       paired = paired;
       small = small;
-      held = leaves.few;
-      due = leaves.light;
-      span = t.span;
-      row = rw t.top (rows.row 0 (omega arith) (omega arith));
+      held = omega (arith, leb-true s.held r.pans q.0, h.held);
+      due = omega (arith, leb-true s.due (r.target + r.above) q.1, h.due);
+      span = is ∙ span_is r ws as' s h;
+      row = rw h.rows (rows.row 0 (omega arith) (omega arith));
       enough = omega (arith, h.due);
       few = omega (arith, h.held);
     }

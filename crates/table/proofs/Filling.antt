@@ -222,8 +222,8 @@ pub left_next :
     {old : ℕ} {ws as' : List ℕ} {most wide : ℕ} {us vs us' vs' : List ℕ} {w a top : ℕ} {bytes : List ℕ} → Left old ws as' most wide us vs top bytes →
     (length us - length vs ≡ 0 → us ≡ us' ++ w ∷ []) → (length vs - length us ≡ 0 → vs ≡ vs' ++ a ∷ []) → Next old ws as' most wide us' vs' w a top bytes
 left_next {us' = us'} {vs' = vs'} h e f =
-    let u = front_less (e (omega (arith, h.paired))) h.weights in
-    let v = front_less (f (omega (arith, h.paired))) h.ages in
+    let u = front_less {us' = us'} (e (omega (arith, h.paired))) h.weights in
+    let v = front_less {us' = vs'} (f (omega (arith, h.paired))) h.ages in
     let same : length vs' ≡ length us' = omega (arith, h.paired, u.1, v.1) in
     record {
       few = u.2;
