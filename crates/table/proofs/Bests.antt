@@ -1,6 +1,6 @@
 -- The first weight of the window that few enough pans make is the best bag's, and the first choice of it the best.
-use Rattle.std.proofs.Common.{◌≡◌, ℕ, ◌+◌, ◌-◌, ◌*◌, ◌<◌, ◌≤◌, min, Bool, true, false, cond, ◌&&◌, ◌||◌, eqb, ltb, leb, ◌⊎◌, List, [], ◌∷◌, length, get_or, None, sym, refl, ◌∙◌, inl, inr, mul-one, mul-add, arith}
-use Rattle.std.proofs.lemmas.Bool.{and_parts, and_from, both_ways, cases_lt, or_right, le-leb, leb-true}
+use Rattle.std.proofs.Common.{◌≡◌, ℕ, ◌+◌, ◌-◌, ◌*◌, ◌<◌, ◌≤◌, min, Bool, true, false, cond, ◌&&◌, ◌||◌, eqb, ltb, leb, ◌⊎◌, List, [], ◌∷◌, length, get_or, None, sym, refl, ◌∙◌, inl, inr, arith}
+use Rattle.std.proofs.lemmas.Bool.{and_parts, and_from, both_ways, cases_lt, false_from_ne_true, or_right, le-leb, leb-true}
 use Rattle.std.proofs.lemmas.Bool.Decides.{nat_tests}
 use Rattle.choices.specs.Choice.{Choice, weight_of, opened, none_empty, keeps_old, fits}
 use Rattle.choices.specs.declared.rule.Rule.{Rule}
@@ -78,22 +78,15 @@ wanted r ws as' cs paired h =
       small = omega (arith, opened_le cs, f.whole);
     }
 
-none_from : (r : Rule) (ws as' : List ℕ) → ((cs : Choice) → fits r ws as' cs ≡ true → ⊥) → NoneOf (fits r ws as')
-none_from r ws as' h cs = at (fits r ws as' cs) refl
-  where
-    at : (b : Bool) → fits r ws as' cs ≡ b → b ≡ false
-    at true e = absurd (h cs e)
-    at false e = refl
-
 -- where the pans that have to be opened leave no bag
 pub none_left :
     (r : Rule) (ws as' : List ℕ) → length as' ≡ length ws →
     (none_due_empty r.age ws as' && (leb (due_pans r.age as') r.pans && leb (due_weight r.age ws as') (r.target + r.above))) ≡ false →
     NoneOf (fits r ws as')
-none_left r ws as' paired test = none_from r ws as' at
+none_left r ws as' paired test cs = false_from_ne_true (fits r ws as' cs) at
   where
-    at : (cs : Choice) → fits r ws as' cs ≡ true → ⊥
-    at cs h =
+    at : fits r ws as' cs ≡ true → ⊥
+    at h =
         let f = fitting r ws as' cs h in
         let due = due_le r.age ws as' cs f.whole f.waited in
         let held = held_le r.age as' cs (f.whole ∙ sym paired) f.waited in
@@ -124,10 +117,10 @@ missed {y = y} {cs = cs} t w more =
 pub none_found :
     {r : Rule} {ws as' : List ℕ} {most start from limit : ℕ} {bytes : List ℕ} → Window r ws as' most start from limit bytes →
     Lightest bytes start from most limit None → NoneOf (fits r ws as')
-none_found {r} {ws} {as'} t h = none_from r ws as' at
+none_found {r} {ws} {as'} t h cs = false_from_ne_true (fits r ws as' cs) at
   where
-    at : (cs : Choice) → fits r ws as' cs ≡ true → ⊥
-    at cs f = let w = wanted r ws as' cs t.paired f in missed t w (h _ (omega (arith, t.enough, w.enough)) (omega (arith, t.span, w.within)))
+    at : fits r ws as' cs ≡ true → ⊥
+    at f = let w = wanted r ws as' cs t.paired f in missed t w (h _ (omega (arith, t.enough, w.enough)) (omega (arith, t.span, w.within)))
 
 not_better : (a b m n : ℕ) (f : Bool) → b ≤ a → (a ≡ b → n ≤ m) → (a ≡ b → m ≡ n → f ≡ false) → (ltb a b || (eqb a b && (ltb m n || (eqb m n && f)))) ≡ false
 not_better a b m n f heavy many first = grind (arith, nat_tests)

@@ -1,8 +1,9 @@
 -- Rows that are filled from the last pan to the first: what one row more keeps and adds.
 use Rattle.std.proofs.Common.{◌≡◌, ℕ, zero, suc, ◌+◌, ◌-◌, ◌*◌, ◌<◌, ◌≤◌, min, true, false, ◌&&◌, ◌||◌, ltb, leb, ◌⊎◌, List, [], ◌∷◌, length, get_or, drop, sym, refl, ◌∙◌, ◌++◌, append_assoc, length-append, inl, inr, Iter, None, mul-le-mul_left, mul-one, mul-add, arith}
+use Rattle.std.specs.declared.iter.Rev.{Rev}
 use Rattle.std.specs.declared.iter.Zip.{Zip}
 use Rattle.std.specs.Slice.Iter.{iter_rest, iter_steps_back}
-use Rattle.std.specs.Iterator.Adapters.{zip_first, zip_second, zip_steps_back}
+use Rattle.std.specs.Iterator.Adapters.{rev_source, rev_steps, zip_first, zip_second, zip_steps}
 use Rattle.std.proofs.lemmas.List.{append-nil, drop-drop, drop_all, drop_more, get_or_at, get_or_append_left}
 use Rattle.std.proofs.lemmas.Bool.{cases_lt, and_parts, both_ways, le-ltb, lt-ltb, le-leb, lt-leb}
 use Rattle.choices.specs.Choice.{bit}
@@ -27,22 +28,22 @@ free_drop old ws as' i j h =
     let le = free_drop_le old (j - i) (drop i ws) (drop i as') in
     rw (drop-drop (j - i) i ws, drop-drop (j - i) i as', e) at le
 
-pub row_same :
+row_same :
     {old : ℕ} {ws as' : List ℕ} {most start : ℕ} {bytes bytes' : List ℕ} → Row old ws as' most start bytes →
     ((j : ℕ) → j ≤ start + most → get_or bytes' j 0 ≡ get_or bytes j 0) → Row old ws as' most start bytes'
 row_same {start = start} h same = record { least = λ x low. rw (same (start + x) (omega arith)) (h.least x low) }
 
-pub row_due :
+row_due :
     {old w a : ℕ} {ws as' : List ℕ} {most start : ℕ} {bytes : List ℕ} → ltb a old ≡ false → leb 1 w ≡ true →
     Row old ws as' most start bytes → Row old (w ∷ ws) (a ∷ as') most start bytes
 row_due e f h = record { least = λ x low. least_due e f (h.least x low) }
 
-pub row_idle :
+row_idle :
     {old w a : ℕ} {ws as' : List ℕ} {most start : ℕ} {bytes : List ℕ} → ltb a old ≡ true → (leb 1 w ≡ true → ⊥) →
     Row old ws as' most start bytes → Row old (w ∷ ws) (a ∷ as') most start bytes
 row_idle e f h = record { least = λ x low. least_barred e (λ g _. f g) (h.least x low) }
 
-pub row_free :
+row_free :
     {old w a : ℕ} {ws as' : List ℕ} {most start next : ℕ} {bytes bytes' : List ℕ} → ltb a old ≡ true → leb 1 w ≡ true →
     Row old ws as' most start bytes →
     ((x : ℕ) → x ≤ most → x < w → get_or bytes' (next + x) 0 ≡ get_or bytes (start + x) 0) →
@@ -59,7 +60,7 @@ pub record Filling (old : ℕ) (ws as' : List ℕ) (most wide pan top : ℕ) (by
   pub at : top ≡ wide * free_pans old (drop pan ws) (drop pan as')
   pub rows : Rows old ws as' most wide pan bytes
 
-pub filling_none :
+filling_none :
     (old : ℕ) (ws as' : List ℕ) (most wide : ℕ) (bytes : List ℕ) → length as' ≡ length ws → get_or bytes 0 0 ≡ 0 →
     ((x : ℕ) → 1 ≤ x → x < most + 1 → get_or bytes x 0 ≡ 255) → Filling old ws as' most wide (length ws) 0 bytes
 filling_none old ws as' most wide bytes paired none rest =
@@ -98,29 +99,29 @@ none_due_at old (w ∷ ws) (a ∷ as') zero few paired h = (and_parts (ltb a old
 none_due_at old (w ∷ ws) (a ∷ as') (suc i) few paired h =
     none_due_at old ws as' i (omega arith) (omega arith) (and_parts (ltb a old || leb 1 w) (none_due_empty old ws as') h).1
 
-pub due_filled :
+due_filled :
     (old : ℕ) (ws as' : List ℕ) (i : ℕ) → i < length ws → length as' ≡ length ws → none_due_empty old ws as' ≡ true →
     old ≤ get_or as' i 0 → (ltb (get_or as' i 0) old ≡ false) × (leb 1 (get_or ws i 0) ≡ true)
 due_filled old ws as' i few paired ready waited =
     let e = le-ltb (get_or as' i 0) old waited in (e, rw e at (none_due_at old ws as' i few paired ready))
 
-pub rowless :
+rowless :
     (old : ℕ) (ws as' : List ℕ) (i : ℕ) → i < length ws → length as' ≡ length ws → none_due_empty old ws as' ≡ true →
     ((get_or as' i 0 < old) × (get_or ws i 0 ≤ 0)) ⊎ (old ≤ get_or as' i 0) → Rowless old (get_or ws i 0) (get_or as' i 0)
 rowless old ws as' i few paired ready (inl (young, empty)) = inr (lt-ltb _ _ young, lt-leb _ _ (omega arith))
 rowless old ws as' i few paired ready (inr waited) = inl (due_filled old ws as' i few paired ready waited)
 
 module _ (old : ℕ) (ws as' : List ℕ) (i : ℕ) (few : i < length ws) (paired : length as' ≡ length ws) where
-  pub drop_weights : drop i ws ≡ get_or ws i 0 ∷ drop (i + 1) ws
+  drop_weights : drop i ws ≡ get_or ws i 0 ∷ drop (i + 1) ws
   drop_weights = drop_more ws i 0 few
 
-  pub drop_ages : drop i as' ≡ get_or as' i 0 ∷ drop (i + 1) as'
+  drop_ages : drop i as' ≡ get_or as' i 0 ∷ drop (i + 1) as'
   drop_ages = drop_more as' i 0 (omega arith)
 
-  pub free_next : free_pans old (drop i ws) (drop i as') ≡ bit (ltb (get_or as' i 0) old && leb 1 (get_or ws i 0)) + free_pans old (drop (i + 1) ws) (drop (i + 1) as')
+  free_next : free_pans old (drop i ws) (drop i as') ≡ bit (ltb (get_or as' i 0) old && leb 1 (get_or ws i 0)) + free_pans old (drop (i + 1) ws) (drop (i + 1) as')
   free_next = rw (drop_weights, drop_ages)
 
-  pub free_rowless : Rowless old (get_or ws i 0) (get_or as' i 0) → free_pans old (drop i ws) (drop i as') ≡ free_pans old (drop (i + 1) ws) (drop (i + 1) as')
+  free_rowless : Rowless old (get_or ws i 0) (get_or as' i 0) → free_pans old (drop i ws) (drop i as') ≡ free_pans old (drop (i + 1) ws) (drop (i + 1) as')
   free_rowless (inl (e, f)) = let n = rw e at free_next in omega arith
   free_rowless (inr (e, f)) = let n = rw (e, f) at free_next in omega arith
 
@@ -131,7 +132,7 @@ module _ (old : ℕ) (ws as' : List ℕ) (i : ℕ) (few : i < length ws) (paired
   row_rowless (inr (e, f)) h = rw (drop_weights, drop_ages) (row_idle e (λ g. both_ways _ f g) h)
 
   -- a pan that has no row of its own
-  pub filling_skip :
+  filling_skip :
       {most wide top : ℕ} {bytes : List ℕ} → most < wide → Rowless old (get_or ws i 0) (get_or as' i 0) →
       Filling old ws as' most wide (i + 1) top bytes → Filling old ws as' most wide i top bytes
   filling_skip {most} {wide} {top} {bytes} less kind h =
@@ -139,7 +140,7 @@ module _ (old : ℕ) (ws as' : List ℕ) (i : ℕ) (few : i < length ws) (paired
       record { at = rw e h.at; rows = rows_more h less (λ j _. refl) (rw e (row_rowless kind (h.rows.row (i + 1) (omega arith) (omega arith)))) }
 
   -- a pan that has one
-  pub filling_add :
+  filling_add :
       {most wide top : ℕ} {bytes bytes' : List ℕ} → most < wide → ltb (get_or as' i 0) old ≡ true → leb 1 (get_or ws i 0) ≡ true →
       Filling old ws as' most wide (i + 1) top bytes →
       ((j : ℕ) → j < top + wide → get_or bytes' j 0 ≡ get_or bytes j 0) →
@@ -160,7 +161,7 @@ module _ (old : ℕ) (ws as' : List ℕ) (i : ℕ) (few : i < length ws) (paired
       whole = rw (drop_weights, drop_ages) (row_free e f older without with)
 
   -- there is room for it
-  pub filling_room :
+  filling_room :
       {most wide top : ℕ} {bytes : List ℕ} → ltb (get_or as' i 0) old ≡ true → leb 1 (get_or ws i 0) ≡ true →
       Filling old ws as' most wide (i + 1) top bytes → top + wide + wide ≤ wide * (free_pans old ws as' + 1)
   filling_room {most} {wide} {top} e f h =
@@ -175,7 +176,7 @@ pub record Front (us xs : List ℕ) : Type 0 where
   pub rest : List ℕ
   pub is : us ++ rest ≡ xs
 
-pub front_all : (xs : List ℕ) → Front xs xs
+front_all : (xs : List ℕ) → Front xs xs
 front_all xs = record { rest = []; is = append-nil xs }
 
 front_less :
@@ -220,10 +221,10 @@ pub record Next (old : ℕ) (ws as' : List ℕ) (most wide : ℕ) (us vs : List 
 
 pub left_next :
     {old : ℕ} {ws as' : List ℕ} {most wide : ℕ} {us vs us' vs' : List ℕ} {w a top : ℕ} {bytes : List ℕ} → Left old ws as' most wide us vs top bytes →
-    (length us - length vs ≡ 0 → us ≡ us' ++ w ∷ []) → (length vs - length us ≡ 0 → vs ≡ vs' ++ a ∷ []) → Next old ws as' most wide us' vs' w a top bytes
+    us ≡ us' ++ w ∷ [] → vs ≡ vs' ++ a ∷ [] → Next old ws as' most wide us' vs' w a top bytes
 left_next {us' = us'} {vs' = vs'} h e f =
-    let u = front_less {us' = us'} (e (omega (arith, h.paired))) h.weights in
-    let v = front_less {us' = vs'} (f (omega (arith, h.paired))) h.ages in
+    let u = front_less e h.weights in
+    let v = front_less f h.ages in
     let same : length vs' ≡ length us' = omega (arith, h.paired, u.1, v.1) in
     record {
       few = u.2;
@@ -260,15 +261,8 @@ module _
 
 -- none is left
 pub left_none :
-    {old : ℕ} {ws as' : List ℕ} {most wide top : ℕ} {bytes : List ℕ} {s t : Zip (Iter ℕ) (Iter ℕ)} →
-    Left old ws as' most wide (iter_rest (zip_first s)) (iter_rest (zip_second s)) top bytes →
-    zip_steps_back iter_steps_back iter_steps_back (λ u. length (iter_rest u)) (λ u. length (iter_rest u)) s None t → Rows old ws as' most wide 0 bytes
-left_none {old} {ws} {as'} {most} {wide} {bytes = bytes} {s = s} {t} h steps = at (cases_lt 0 (length (iter_rest (zip_first s))))
-  where
-    at : (0 < length (iter_rest (zip_first s))) ⊎ (length (iter_rest (zip_first s)) ≤ 0) → Rows old ws as' most wide 0 bytes
-    at (inl some) =
-        elim (steps.1 (omega (arith, h.paired))) [
-          | inl n ↦ absurd (omega (arith, (n.3 (omega (arith, h.paired))).0))
-          | inr n ↦ absurd (omega (arith, (n.3 (omega (arith, h.paired))).0, h.paired))
-        ]
-    at (inr none) = let e : length (iter_rest (zip_first s)) ≡ 0 = omega arith in rw e at h.filled.rows
+    {old : ℕ} {ws as' : List ℕ} {most wide top : ℕ} {bytes : List ℕ} {s : Zip (Rev (Iter ℕ)) (Rev (Iter ℕ))} (t : Zip (Rev (Iter ℕ)) (Rev (Iter ℕ))) →
+    Left old ws as' most wide (iter_rest (rev_source (zip_first s))) (iter_rest (rev_source (zip_second s))) top bytes →
+    zip_steps (rev_steps iter_steps_back) (rev_steps iter_steps_back) s None t → Rows old ws as' most wide 0 bytes
+left_none {s = s} t h (inl n) = let e : length (iter_rest (rev_source (zip_first s))) ≡ 0 = n.1.0 in rw e at h.filled.rows
+left_none {s = s} t h (inr n) = let e : length (iter_rest (rev_source (zip_first s))) ≡ 0 = omega (arith, n.1.0, h.paired) in rw e at h.filled.rows

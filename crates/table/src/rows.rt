@@ -27,6 +27,16 @@ fn start_row(row: &mut [u8])
     row[0] = 0;
 }
 
+// Weights below a pan's are made without it. A loop over whole blocks, since a call that copies costs more than a short row.
+fn copy_row(row: &mut [u8], without: &[u8])
+    requires { length without.now ≡ length row.old }
+    ensures { EachIndex row.old (λ x. slice_index row.new x ≡ slice_index without.now x) }
+{
+    for (x, least) in row.iter_mut().enumerate() {
+        *least = without[x];
+    }
+}
+
 // Weights from a pan's on: without it, or with it and one pan more than the rest takes, whichever is less.
 fn join_row(row: &mut [u8], without: &[u8], with: &[u8])
     requires { (length without.now ≡ length row.old) × (length with.now ≡ length row.old) }
@@ -46,10 +56,11 @@ fn add_pan(room: &mut [u8], row: usize, wide: usize, weight: usize)
 {
     let width = wide - (BLOCK - 1);
     let low = weight.min(width);
+    let front = blocks(low);
     let count = blocks(width - low);
     let (rows, next) = room.split_at_mut(row + wide);
     let last = &rows[row..];
-    next[..low].copy_from_slice(&last[..low]);
+    copy_row(&mut next[..front], &last[..front]);
     join_row(
         &mut next[low..low + count],
         &last[low..low + count],
@@ -67,7 +78,7 @@ pub fn fill(ring: Ring, span: usize, room: &mut [u8])
     let wide = span + BLOCK;
     start_row(&mut room[..span + 1]);
     let mut top = 0;
-    for (w, a) in ring.weights.iter().zip(ring.ages).rev() {
+    for (w, a) in ring.weights.iter().rev().zip(ring.ages.iter().rev()) {
         if *a < ring.rule.age && *w > 0 {
             add_pan(room, top, wide, *w as usize);
             top += wide;

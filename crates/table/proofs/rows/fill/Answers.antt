@@ -7,32 +7,33 @@ use Rattle.table.proofs.rows.fill.Goals.{else-a-ring-via-then-a-ring+else-w-gt0,
 pub loop-w-init : goal.loop-w-init
 loop-w-init c =
     let long : c.args.span < length c.start_row.new.row = omega (arith, length-take (c.args.span + 1) c.args.room.now, c.requires.enough) in
-    ((tt, tt, tt, tt), tt, left_all c.start_row.new.row _ (cc) (cc) c.args.ring.paired long c.start_row.ensures.none (λ x low high. c.start_row.ensures.rest x low (omega (arith, c.start_row.auto.row))))
+    ((tt, tt), tt, left_all c.start_row.new.row _ (cc) (cc) c.args.ring.paired long c.start_row.ensures.none (λ x low high. c.start_row.ensures.rest x low (omega (arith, c.start_row.auto.row))))
 
 pub add_pan-requires : goal.add_pan-requires
 add_pan-requires c =
-    let n = left_next c.loop-w.invariant.2 c.in-Some.ensures.steps.0.3 c.in-Some.ensures.steps.1.3 in
+    let n = left_next c.loop-w.invariant.2 c.in-Some.ensures.steps.0 c.in-Some.ensures.steps.1 in
     omega (arith, left_room n c.args.ring.paired c.if-a-ring.true c.if-w-gt0.true, c.requires.enough)
 
 pub overflow_add-top : goal.overflow_add-top
 overflow_add-top c =
-    let n = left_next c.loop-w.invariant.2 c.in-Some.ensures.steps.0.3 c.in-Some.ensures.steps.1.3 in
+    let n = left_next c.loop-w.invariant.2 c.in-Some.ensures.steps.0 c.in-Some.ensures.steps.1 in
     omega (arith, left_room n c.args.ring.paired c.if-a-ring.true c.if-w-gt0.true, c.requires.enough)
 
 pub loop-w-preserved-then-w-gt0 : goal.loop-w-preserved-then-w-gt0
 loop-w-preserved-then-w-gt0 c =
-    let n = left_next c.loop-w.invariant.2 c.in-Some.ensures.steps.0.3 c.in-Some.ensures.steps.1.3 in
+    let n = left_next c.loop-w.invariant.2 c.in-Some.ensures.steps.0 c.in-Some.ensures.steps.1 in
     let h = c.add_pan.ensures in
-    ((tt, tt, tt, tt), tt, left_add n c.args.ring.paired c.if-a-ring.true c.if-w-gt0.true (omega arith) h.same (λ x low less. h.without x (omega arith) less) (λ x low heavy. h.with x (omega arith) heavy))
+    ((tt, tt), tt, left_add n c.args.ring.paired c.if-a-ring.true c.if-w-gt0.true (omega arith) h.same (λ x low less. h.without x (omega arith) less) (λ x low heavy. h.with x (omega arith) heavy))
 
 pub loop-w-preserved : goal.loop-w-preserved
 loop-w-preserved c =
-    let n = left_next c.loop-w.invariant.2 c.in-Some.ensures.steps.0.3 c.in-Some.ensures.steps.1.3 in
-    let skip = left_skip n c.args.ring.paired (omega arith) c.requires.ready in
+    let less : c.args.span < c.args.span + 16 = omega arith in
+    let n = left_next c.loop-w.invariant.2 c.in-Some.ensures.steps.0 c.in-Some.ensures.steps.1 in
+    let skip = left_skip n c.args.ring.paired less c.requires.ready in
     elim c.else-a-ring.branch [
-      | else-a-ring-via-then-a-ring+else-w-gt0 w ↦ ((tt, tt, tt, tt), tt, skip (inl (w.if-a-ring.true, w.if-w-gt0.false)))
-      | else-a-ring-via-else-a-ring w ↦ ((tt, tt, tt, tt), tt, skip (inr w.if-a-ring.false))
+      | else-a-ring-via-then-a-ring+else-w-gt0 w ↦ ((tt, tt), tt, skip (inl (w.if-a-ring.true, w.if-w-gt0.false)))
+      | else-a-ring-via-else-a-ring w ↦ ((tt, tt), tt, skip (inr w.if-a-ring.false))
     ]
 
 pub returns : goal.returns
-returns c = left_none c.loop-w.invariant.2 c.in-None.ensures.steps
+returns c = left_none c.next.new.self c.loop-w.invariant.2 c.in-None.ensures.steps

@@ -7,4 +7,4 @@ use Rattle.table.proofs.rows.fill.Given as goal
 abbrev pub invariant-loop-w : goal.invariant-loop-w
 invariant-loop-w l =
     (goal.iterator-loop-w).can_next l.w-iterator × (goal.iterator-loop-w).is_finite l.w-iterator
-    × Left l.ring.rule.age l.ring.weights.now l.ring.ages.now l.span l.wide (iter_rest (zip_first (rev_source l.w-iterator))) (iter_rest (zip_second (rev_source l.w-iterator))) l.top l.room
+    × Left l.ring.rule.age l.ring.weights.now l.ring.ages.now l.span l.wide (iter_rest (rev_source (zip_first l.w-iterator))) (iter_rest (rev_source (zip_second l.w-iterator))) l.top l.room
