@@ -86,10 +86,7 @@ rows_more {old} {ws} {as'} {most} {wide} {pan} {top} {bytes} {bytes'} h less sam
         row_same (h.rows.row i (omega arith) high) (λ j le. same j (omega (arith, h.at, mul-le-mul_left wide few)))
     at i high (inr here) low = let e : i ≡ pan = omega arith in rw e newest
 
--- what each pan is that has no row: one that has to be opened and is not empty, or one that is empty and may wait
-abbrev pub Rowless : ℕ → ℕ → ℕ → Type 0
-Rowless old w a = ((ltb a old ≡ false) × (leb 1 w ≡ true)) ⊎ ((ltb a old ≡ true) × (leb 1 w ≡ false))
-
+-- a pan that has to be opened is not empty
 none_due_at :
     (old : ℕ) (ws as' : List ℕ) (i : ℕ) → i < length ws → length as' ≡ length ws → none_due_empty old ws as' ≡ true →
     (ltb (get_or as' i 0) old || leb 1 (get_or ws i 0)) ≡ true
@@ -98,76 +95,6 @@ none_due_at old (w ∷ ws) [] i few paired h = absurd (omega arith)
 none_due_at old (w ∷ ws) (a ∷ as') zero few paired h = (and_parts (ltb a old || leb 1 w) (none_due_empty old ws as') h).0
 none_due_at old (w ∷ ws) (a ∷ as') (suc i) few paired h =
     none_due_at old ws as' i (omega arith) (omega arith) (and_parts (ltb a old || leb 1 w) (none_due_empty old ws as') h).1
-
-due_filled :
-    (old : ℕ) (ws as' : List ℕ) (i : ℕ) → i < length ws → length as' ≡ length ws → none_due_empty old ws as' ≡ true →
-    old ≤ get_or as' i 0 → (ltb (get_or as' i 0) old ≡ false) × (leb 1 (get_or ws i 0) ≡ true)
-due_filled old ws as' i few paired ready waited =
-    let e = le-ltb (get_or as' i 0) old waited in (e, rw e at (none_due_at old ws as' i few paired ready))
-
-rowless :
-    (old : ℕ) (ws as' : List ℕ) (i : ℕ) → i < length ws → length as' ≡ length ws → none_due_empty old ws as' ≡ true →
-    ((get_or as' i 0 < old) × (get_or ws i 0 ≤ 0)) ⊎ (old ≤ get_or as' i 0) → Rowless old (get_or ws i 0) (get_or as' i 0)
-rowless old ws as' i few paired ready (inl (young, empty)) = inr (lt-ltb _ _ young, lt-leb _ _ (omega arith))
-rowless old ws as' i few paired ready (inr waited) = inl (due_filled old ws as' i few paired ready waited)
-
-module _ (old : ℕ) (ws as' : List ℕ) (i : ℕ) (few : i < length ws) (paired : length as' ≡ length ws) where
-  drop_weights : drop i ws ≡ get_or ws i 0 ∷ drop (i + 1) ws
-  drop_weights = drop_more ws i 0 few
-
-  drop_ages : drop i as' ≡ get_or as' i 0 ∷ drop (i + 1) as'
-  drop_ages = drop_more as' i 0 (omega arith)
-
-  free_next : free_pans old (drop i ws) (drop i as') ≡ bit (ltb (get_or as' i 0) old && leb 1 (get_or ws i 0)) + free_pans old (drop (i + 1) ws) (drop (i + 1) as')
-  free_next = rw (drop_weights, drop_ages)
-
-  free_rowless : Rowless old (get_or ws i 0) (get_or as' i 0) → free_pans old (drop i ws) (drop i as') ≡ free_pans old (drop (i + 1) ws) (drop (i + 1) as')
-  free_rowless (inl (e, f)) = let n = rw e at free_next in omega arith
-  free_rowless (inr (e, f)) = let n = rw (e, f) at free_next in omega arith
-
-  row_rowless :
-      {most start : ℕ} {bytes : List ℕ} → Rowless old (get_or ws i 0) (get_or as' i 0) →
-      Row old (drop (i + 1) ws) (drop (i + 1) as') most start bytes → Row old (drop i ws) (drop i as') most start bytes
-  row_rowless (inl (e, f)) h = rw (drop_weights, drop_ages) (row_due e f h)
-  row_rowless (inr (e, f)) h = rw (drop_weights, drop_ages) (row_idle e (λ g. both_ways _ f g) h)
-
-  -- a pan that has no row of its own
-  filling_skip :
-      {most wide top : ℕ} {bytes : List ℕ} → most < wide → Rowless old (get_or ws i 0) (get_or as' i 0) →
-      Filling old ws as' most wide (i + 1) top bytes → Filling old ws as' most wide i top bytes
-  filling_skip {most} {wide} {top} {bytes} less kind h =
-      let e = free_rowless kind in
-      record { at = rw e h.at; rows = rows_more h less (λ j _. refl) (rw e (row_rowless kind (h.rows.row (i + 1) (omega arith) (omega arith)))) }
-
-  -- a pan that has one
-  filling_add :
-      {most wide top : ℕ} {bytes bytes' : List ℕ} → most < wide → ltb (get_or as' i 0) old ≡ true → leb 1 (get_or ws i 0) ≡ true →
-      Filling old ws as' most wide (i + 1) top bytes →
-      ((j : ℕ) → j < top + wide → get_or bytes' j 0 ≡ get_or bytes j 0) →
-      ((x : ℕ) → x ≤ most → x < get_or ws i 0 → get_or bytes' (top + wide + x) 0 ≡ get_or bytes (top + x) 0) →
-      ((x : ℕ) → x ≤ most → get_or ws i 0 ≤ x → get_or bytes' (top + wide + x) 0 ≡ min (get_or bytes (top + x) 0) (min (get_or bytes (top + (x - get_or ws i 0)) 0 + 1) 255)) →
-      Filling old ws as' most wide i (top + wide) bytes'
-  filling_add {most} {wide} {top} {bytes} {bytes'} less e f h same without with = record { at = place; rows = rows_more h less same (rw (sym place) whole) }
-    where
-      place : top + wide ≡ wide * free_pans old (drop i ws) (drop i as')
-      place =
-          let n : free_pans old (drop i ws) (drop i as') ≡ 1 + free_pans old (drop (i + 1) ws) (drop (i + 1) as') = rw (e, f) at free_next in
-          rw n (omega (arith, mul-add wide 1 (free_pans old (drop (i + 1) ws) (drop (i + 1) as')), mul-one wide, h.at))
-
-      older : Row old (drop (i + 1) ws) (drop (i + 1) as') most top bytes
-      older = rw h.at (h.rows.row (i + 1) (omega arith) (omega arith))
-
-      whole : Row old (drop i ws) (drop i as') most (top + wide) bytes'
-      whole = rw (drop_weights, drop_ages) (row_free e f older without with)
-
-  -- there is room for it
-  filling_room :
-      {most wide top : ℕ} {bytes : List ℕ} → ltb (get_or as' i 0) old ≡ true → leb 1 (get_or ws i 0) ≡ true →
-      Filling old ws as' most wide (i + 1) top bytes → top + wide + wide ≤ wide * (free_pans old ws as' + 1)
-  filling_room {most} {wide} {top} e f h =
-      let n : free_pans old (drop i ws) (drop i as') ≡ 1 + free_pans old (drop (i + 1) ws) (drop (i + 1) as') = rw (e, f) at free_next in
-      let m : free_pans old (drop (i + 1) ws) (drop (i + 1) as') + 1 ≤ free_pans old ws as' = omega (arith, n, free_drop_le old i ws as') in
-      omega (arith, mul-add wide (free_pans old (drop (i + 1) ws) (drop (i + 1) as')) 1, mul-add wide (free_pans old ws as') 1, mul-one wide, mul-le-mul_left wide m, h.at)
 
 -- ---- gone over from the back
 
@@ -235,29 +162,68 @@ left_next {us' = us'} {vs' = vs'} h e f =
     }
 
 module _
-    {old most wide w a top : ℕ} {ws as' us vs bytes : List ℕ} (n : Next old ws as' most wide us vs w a top bytes) (paired : length as' ≡ length ws)
+    {old most wide w a top : ℕ} {ws as' us vs bytes : List ℕ} (n : Next old ws as' most wide us vs w a top bytes) (paired : length as' ≡ length ws) (less : most < wide)
   where
-    pub left_skip : most < wide → none_due_empty old ws as' ≡ true → ((a < old) × (w ≤ 0)) ⊎ (old ≤ a) → Left old ws as' most wide us vs top bytes
-    left_skip less ready kind =
-        n.after (filling_skip old ws as' (length us) n.few paired less (rowless old ws as' (length us) n.few paired ready (rw (n.weight, n.age) kind)) n.before)
+    weights : drop (length us) ws ≡ w ∷ drop (length us + 1) ws
+    weights = rw n.weight at (drop_more ws (length us) 0 n.few)
+
+    ages : drop (length us) as' ≡ a ∷ drop (length us + 1) as'
+    ages = rw n.age at (drop_more as' (length us) 0 (omega (arith, n.few)))
+
+    free_next : free_pans old (drop (length us) ws) (drop (length us) as') ≡ bit (ltb a old && leb 1 w) + free_pans old (drop (length us + 1) ws) (drop (length us + 1) as')
+    free_next = rw (weights, ages)
+
+    older : Row old (drop (length us + 1) ws) (drop (length us + 1) as') most top bytes
+    older = rw n.before.at (n.before.rows.row (length us + 1) (omega arith) (omega (arith, n.few)))
+
+    -- a pan that has no row of its own
+    skip :
+        free_pans old (drop (length us) ws) (drop (length us) as') ≡ free_pans old (drop (length us + 1) ws) (drop (length us + 1) as') →
+        Row old (w ∷ drop (length us + 1) ws) (a ∷ drop (length us + 1) as') most top bytes → Left old ws as' most wide us vs top bytes
+    skip e row = n.after (record { at = place; rows = rows_more n.before less (λ j _. refl) (rw (← place) (rw (weights, ages) row)) })
+      where
+        place : top ≡ wide * free_pans old (drop (length us) ws) (drop (length us) as')
+        place = rw e n.before.at
+
+    pub left_skip : none_due_empty old ws as' ≡ true → ((a < old) × (w ≤ 0)) ⊎ (old ≤ a) → Left old ws as' most wide us vs top bytes
+    left_skip ready (inl (young, empty)) =
+        let e = lt-ltb a old young in
+        let f = lt-leb 1 w (omega arith) in
+        let k = rw (e, f) at free_next in
+        skip (omega arith) (row_idle e (λ g. both_ways _ f g) older)
+    left_skip ready (inr waited) =
+        let e = le-ltb a old waited in
+        let f = rw (n.weight, n.age) at (none_due_at old ws as' (length us) n.few paired ready) in
+        let k = rw e at free_next in
+        skip (omega arith) (row_due e (rw e at f) older)
 
     module _ (young : a < old) (full : 0 < w) where
-      e : ltb (get_or as' (length us) 0) old ≡ true
-      e = rw n.age (lt-ltb a old young)
+      e : ltb a old ≡ true
+      e = lt-ltb a old young
 
-      f : leb 1 (get_or ws (length us) 0) ≡ true
-      f = rw n.weight (le-leb 1 w (omega arith))
+      f : leb 1 w ≡ true
+      f = le-leb 1 w (omega arith)
 
+      one_more : free_pans old (drop (length us) ws) (drop (length us) as') ≡ 1 + free_pans old (drop (length us + 1) ws) (drop (length us + 1) as')
+      one_more = rw (e, f) at free_next
+
+      -- there is room for its row
       pub left_room : top + wide + wide ≤ wide * (free_pans old ws as' + 1)
-      left_room = filling_room old ws as' (length us) n.few paired e f n.before
+      left_room =
+          let m : free_pans old (drop (length us + 1) ws) (drop (length us + 1) as') + 1 ≤ free_pans old ws as' = omega (arith, one_more, free_drop_le old (length us) ws as') in
+          omega
+          (arith, mul-add wide (free_pans old (drop (length us + 1) ws) (drop (length us + 1) as')) 1, mul-add wide (free_pans old ws as') 1, mul-one wide, mul-le-mul_left wide m, n.before.at)
 
       pub left_add :
-          {bytes' : List ℕ} → most < wide → ((j : ℕ) → j < top + wide → get_or bytes' j 0 ≡ get_or bytes j 0) →
+          {bytes' : List ℕ} → ((j : ℕ) → j < top + wide → get_or bytes' j 0 ≡ get_or bytes j 0) →
           ((x : ℕ) → x ≤ most → x < w → get_or bytes' (top + wide + x) 0 ≡ get_or bytes (top + x) 0) →
           ((x : ℕ) → x ≤ most → w ≤ x → get_or bytes' (top + wide + x) 0 ≡ min (get_or bytes (top + x) 0) (min (get_or bytes (top + (x - w)) 0 + 1) 255)) →
           Left old ws as' most wide us vs (top + wide) bytes'
-      left_add less same without with =
-          n.after (filling_add old ws as' (length us) n.few paired less e f n.before same (rw n.weight without) (rw n.weight with))
+      left_add same without with =
+          n.after (record { at = place; rows = rows_more n.before less same (rw (← place) (rw (weights, ages) (row_free e f older without with))) })
+        where
+          place : top + wide ≡ wide * free_pans old (drop (length us) ws) (drop (length us) as')
+          place = rw one_more (omega (arith, mul-add wide 1 (free_pans old (drop (length us + 1) ws) (drop (length us + 1) as')), mul-one wide, n.before.at))
 
 -- none is left
 pub left_none :

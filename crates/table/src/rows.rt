@@ -27,7 +27,7 @@ fn start_row(row: &mut [u8])
     row[0] = 0;
 }
 
-// Weights below a pan's are made without it. A loop over whole blocks, since a call that copies costs more than a short row.
+// Weights below a pan's are made without it. `copy_from_slice` was tried: its call makes a bag by short rows a third slower.
 fn copy_row(row: &mut [u8], without: &[u8])
     requires { length without.now ≡ length row.old }
     ensures { EachIndex row.old (λ x. slice_index row.new x ≡ slice_index without.now x) }
@@ -38,6 +38,7 @@ fn copy_row(row: &mut [u8], without: &[u8])
 }
 
 // Weights from a pan's on: without it, or with it and one pan more than the rest takes, whichever is less.
+// The index stays: with a zip of `iter_mut` the proof did not close, since it knows no element that such a loop wrote.
 fn join_row(row: &mut [u8], without: &[u8], with: &[u8])
     requires { (length without.now ≡ length row.old) × (length with.now ≡ length row.old) }
     ensures { EachIndex row.old (λ x. slice_index row.new x ≡ min (slice_index without.now x) (min (slice_index with.now x + 1) 255)) }
@@ -47,7 +48,7 @@ fn join_row(row: &mut [u8], without: &[u8], with: &[u8])
     }
 }
 
-// The row with one free pan more, behind the row without it: weights below the pan's are made without it.
+// The row with one free pan more, behind the row without it. Both passes go over whole blocks.
 fn add_pan(room: &mut [u8], row: usize, wide: usize, weight: usize)
     requires { (16 ≤ wide) × ((wide ≤ 3000000) × (row + wide + wide ≤ length room.old)) }
     ensures same { (j : ℕ) → j < row + wide → slice_index room.new j ≡ slice_index room.old j }

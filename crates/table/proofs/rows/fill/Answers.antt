@@ -12,18 +12,18 @@ loop-w-init c =
 pub add_pan-requires : goal.add_pan-requires
 add_pan-requires c =
     let n = left_next c.loop-w.invariant.2 c.in-Some.ensures.steps.0 c.in-Some.ensures.steps.1 in
-    omega (arith, left_room n c.args.ring.paired c.if-a-ring.true c.if-w-gt0.true, c.requires.enough)
+    omega (arith, left_room n c.args.ring.paired (omega arith) c.if-a-ring.true c.if-w-gt0.true)
 
 pub overflow_add-top : goal.overflow_add-top
 overflow_add-top c =
     let n = left_next c.loop-w.invariant.2 c.in-Some.ensures.steps.0 c.in-Some.ensures.steps.1 in
-    omega (arith, left_room n c.args.ring.paired c.if-a-ring.true c.if-w-gt0.true, c.requires.enough)
+    omega (arith, left_room n c.args.ring.paired (omega arith) c.if-a-ring.true c.if-w-gt0.true)
 
 pub loop-w-preserved-then-w-gt0 : goal.loop-w-preserved-then-w-gt0
 loop-w-preserved-then-w-gt0 c =
     let n = left_next c.loop-w.invariant.2 c.in-Some.ensures.steps.0 c.in-Some.ensures.steps.1 in
     let h = c.add_pan.ensures in
-    ((tt, tt), tt, left_add n c.args.ring.paired c.if-a-ring.true c.if-w-gt0.true (omega arith) h.same (λ x low less. h.without x (omega arith) less) (λ x low heavy. h.with x (omega arith) heavy))
+    ((tt, tt), tt, left_add n c.args.ring.paired (omega arith) c.if-a-ring.true c.if-w-gt0.true h.same (λ x low less. h.without x (omega arith) less) (λ x low heavy. h.with x (omega arith) heavy))
 
 pub loop-w-preserved : goal.loop-w-preserved
 loop-w-preserved c =
