@@ -1,29 +1,10 @@
 -- What is left of the proof that the first choice is read.
-use Rattle.std.proofs.Common.{None, sym, refl, ◌∙◌, arith, rules}
+use Rattle.std.proofs.Common.{None, sym, refl, ◌∙◌, arith}
 use Rattle.std.specs.Iterator.Adapters.{enumerate_source}
 use Rattle.std.proofs.lemmas.Iterator.{empty_from_Zip}
-use Rattle.std.proofs.lemmas.Nat.{one_shl, pow_below}
-use Rattle.table.proofs.Reading.{reading_none, reading_fits, reading_due, reading_idle, reading_open, reading_shut, reading_row, reading_room, reading_all}
+use Rattle.std.proofs.lemmas.Nat.{one_shl}
+use Rattle.table.proofs.Reading.{reading_fits, reading_due, reading_idle, reading_open, reading_shut, reading_room, reading_all}
 use Rattle.table.proofs.read.Table.read.Goals as goal
-
-pub loop-pan-init : goal.loop-pan-init
-loop-pan-init c =
-    let t = c.args.self in
-    (search rules, tt, reading_none (cc) (cc) (cc) t.ready (rw (sym t.counted) c.top-row.ensures) c.requires.within (rw c.top-row.ensures c.requires.some))
-
-pub overflow_add-pans : goal.overflow_add-pans
-overflow_add-pans c =
-    let h = reading_fits c.loop-pan.invariant.2 c.requires.rows c.args.self.ring.paired c.in-Some.ensures.steps c.args.self.ring.few in
-    omega (arith, one_shl c.in-Some.pan 32 (omega arith), pow_below c.in-Some.pan 24 (omega arith))
-
-pub overflow_add-pans-then-opens : goal.overflow_add-pans-then-opens
-overflow_add-pans-then-opens c =
-    let h = reading_fits c.loop-pan.invariant.2 c.requires.rows c.args.self.ring.paired c.in-Some.ensures.steps c.args.self.ring.few in
-    omega (arith, one_shl c.in-Some.pan 32 (omega arith), pow_below c.in-Some.pan 24 (omega arith))
-
-pub overflow_sub-row : goal.overflow_sub-row
-overflow_sub-row c =
-    let h = reading_row c.loop-pan.invariant.2 c.requires.rows c.args.self.ring.paired c.in-Some.ensures.steps c.if-a-self.false c.if-lies-gt0.true in omega arith
 
 pub opens-requires : goal.opens-requires
 opens-requires c = let h = reading_room c.loop-pan.invariant.2 (omega arith) in omega (arith, h, rw c.args.self.counted at c.args.self.enough)
