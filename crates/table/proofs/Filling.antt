@@ -1,10 +1,6 @@
 -- Rows that are filled from the last pan to the first: what one row more keeps and adds.
-use Rattle.std.proofs.Common.{◌≡◌, ℕ, zero, suc, ◌+◌, ◌-◌, ◌*◌, ◌<◌, ◌≤◌, min, true, false, ◌&&◌, ◌||◌, ltb, leb, ◌⊎◌, List, [], ◌∷◌, length, get_or, drop, sym, refl, ◌∙◌, ◌++◌, append_assoc, length-append, inl, inr, Iter, None, mul-le-mul_left, mul-one, mul-add, arith}
-use Rattle.std.specs.declared.iter.Rev.{Rev}
-use Rattle.std.specs.declared.iter.Zip.{Zip}
-use Rattle.std.specs.Slice.Iter.{iter_rest, iter_steps_back}
-use Rattle.std.specs.Iterator.Adapters.{rev_source, rev_steps, zip_first, zip_second, zip_steps}
-use Rattle.std.proofs.lemmas.List.{append-nil, drop-drop, drop_all, drop_more, get_or_at, get_or_append_left}
+use Rattle.std.proofs.Common.{◌≡◌, ℕ, zero, suc, ◌+◌, ◌-◌, ◌*◌, ◌<◌, ◌≤◌, min, true, false, ◌&&◌, ◌||◌, ltb, leb, ◌⊎◌, List, [], ◌∷◌, length, get_or, drop, sym, refl, ◌∙◌, ◌++◌, append_assoc, length-append, inl, inr, mul-le-mul_left, mul-one, mul-add, arith}
+use Rattle.std.proofs.lemmas.List.{drop-drop, drop_all, drop_more, get_or_at}
 use Rattle.std.proofs.lemmas.Bool.{cases_lt, and_parts, both_ways, le-ltb, lt-ltb, le-leb, lt-leb}
 use Rattle.choices.specs.Choice.{bit}
 use Rattle.table.specs.Pans.{free_pans, none_due_empty}
@@ -103,9 +99,6 @@ pub record Front (us xs : List ℕ) : Type 0 where
   pub rest : List ℕ
   pub is : us ++ rest ≡ xs
 
-front_all : (xs : List ℕ) → Front xs xs
-front_all xs = record { rest = []; is = append-nil xs }
-
 front_less :
     {us us' xs : List ℕ} {x : ℕ} → us ≡ us' ++ x ∷ [] → Front us xs → Front us' xs × (length us ≡ length us' + 1) × (length us' < length xs) × (get_or xs (length us') 0 ≡ x)
 front_less {us} {us'} {xs} {x} e h = (
@@ -124,19 +117,6 @@ pub record Left (old : ℕ) (ws as' : List ℕ) (most wide : ℕ) (us vs : List 
   pub weights : Front us ws
   pub ages : Front vs as'
   pub filled : Filling old ws as' most wide (length us) top bytes
-
--- all of them are
-pub left_all :
-    {old : ℕ} {ws as' us vs : List ℕ} {most wide : ℕ} (bytes behind : List ℕ) → us ≡ ws → vs ≡ as' → length as' ≡ length ws → most < length bytes → get_or bytes 0 0 ≡ 0 →
-    ((x : ℕ) → 1 ≤ x → x < length bytes → get_or bytes x 0 ≡ 255) → Left old ws as' most wide us vs 0 (bytes ++ behind)
-left_all {old} {ws} {as'} {most = most} {wide} bytes behind e f paired long none rest =
-    rw (e, f) (record { paired = paired; weights = front_all ws; ages = front_all as'; filled = filling_none old ws as' most wide (bytes ++ behind) paired first others })
-  where
-    first : get_or (bytes ++ behind) 0 0 ≡ 0
-    first = get_or_append_left bytes behind 0 0 (omega arith) ∙ none
-
-    others : (x : ℕ) → 1 ≤ x → x < most + 1 → get_or (bytes ++ behind) x 0 ≡ 255
-    others x low high = get_or_append_left bytes behind 0 x (omega arith) ∙ rest x low (omega arith)
 
 -- the last of them is gone over, and leaves those before it
 pub record Next (old : ℕ) (ws as' : List ℕ) (most wide : ℕ) (us vs : List ℕ) (w a top : ℕ) (bytes : List ℕ) : Type 0 where
@@ -224,11 +204,3 @@ module _
         where
           place : top + wide ≡ wide * free_pans old (drop (length us) ws) (drop (length us) as')
           place = rw one_more (omega (arith, mul-add wide 1 (free_pans old (drop (length us + 1) ws) (drop (length us + 1) as')), mul-one wide, n.before.at))
-
--- none is left
-pub left_none :
-    {old : ℕ} {ws as' : List ℕ} {most wide top : ℕ} {bytes : List ℕ} {s : Zip (Rev (Iter ℕ)) (Rev (Iter ℕ))} (t : Zip (Rev (Iter ℕ)) (Rev (Iter ℕ))) →
-    Left old ws as' most wide (iter_rest (rev_source (zip_first s))) (iter_rest (rev_source (zip_second s))) top bytes →
-    zip_steps (rev_steps iter_steps_back) (rev_steps iter_steps_back) s None t → Rows old ws as' most wide 0 bytes
-left_none {s = s} t h (inl n) = let e : length (iter_rest (rev_source (zip_first s))) ≡ 0 = n.1.0 in rw e at h.filled.rows
-left_none {s = s} t h (inr n) = let e : length (iter_rest (rev_source (zip_first s))) ≡ 0 = omega (arith, n.1.0, h.paired) in rw e at h.filled.rows

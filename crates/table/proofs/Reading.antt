@@ -1,13 +1,13 @@
 -- The choice that is read off the rows, pan by pan: what is read so far, with the first choice of what is left, is the first of all.
-use Rattle.std.proofs.Common.{◌≡◌, ℕ, ◌+◌, ◌-◌, ◌*◌, ◌^◌, ◌<◌, ◌≤◌, Bool, true, false, ◌&&◌, ◌||◌, ltb, leb, List, [], ◌∷◌, length, get_or, drop, sym, refl, ap, ◌∙◌, length-drop, mul_assoc, mul_comm, mul-le-mul_left, mul-one, mul-add, add-one, arith}
+use Rattle.std.proofs.Common.{◌≡◌, ℕ, ◌+◌, ◌-◌, ◌*◌, ◌^◌, ◌<◌, ◌≤◌, Bool, true, false, ◌&&◌, ◌||◌, ltb, leb, List, ◌∷◌, length, get_or, drop, sym, refl, ap, ◌∙◌, length-drop, mul_assoc, mul_comm, mul-le-mul_left, mul-one, mul-add, add-one, arith}
 use native.Mathlib.Nat.{pow-succ'}
 use Rattle.std.proofs.lemmas.List.{drop_more}
 use Rattle.std.proofs.lemmas.Bool.{and_parts, both_ways, leb-true, ltb-true, ltb-false, le-ltb, lt-ltb, le-leb, lt-leb}
 use Rattle.choices.specs.Choice.{Choice, bit}
 use Rattle.choices.specs.Numbered.{number_of}
 use Rattle.table.specs.Pans.{free_pans, none_due_empty}
-use Rattle.table.specs.Rows.{Least, First, Row, Rows, Read}
-use Rattle.table.proofs.Making.{first_due, first_open, first_shut, first_nothing, shut_below}
+use Rattle.table.specs.Rows.{Least, First, Row, Rows}
+use Rattle.table.proofs.Making.{first_due, first_open, first_shut, shut_below}
 use Rattle.table.proofs.Filling.{free_drop}
 
 -- the pans before i are read, and made the number pans, and those in us and vs are left; x is the weight of the whole, left that of the rest
@@ -21,13 +21,6 @@ pub record Reading (old : ℕ) (ws as' us vs : List ℕ) (most wide x i row left
   pub some : get_or bytes (row + left) 0 < 255
   pub small : pans < 2 ^ i
   pub goes : (cs : Choice) → First old us vs left cs → (ds : Choice) × First old ws as' x ds × (number_of ds ≡ pans + 2 ^ i * number_of cs)
-
-pub reading_none :
-    {old : ℕ} {ws as' us vs : List ℕ} {most wide x i row : ℕ} {bytes : List ℕ} → us ≡ ws → vs ≡ as' → i ≡ 0 → none_due_empty old ws as' ≡ true →
-    row ≡ wide * free_pans old ws as' → x ≤ most → get_or bytes (row + x) 0 < 255 → Reading old ws as' us vs most wide x i row x 0 bytes
-reading_none e f g ready place low some =
-    rw (e, f, g)
-    (record { reached = omega arith; weights = refl; ages = refl; ready = ready; at = place; within = low; some = some; small = omega arith; goes = λ cs h. (cs, h, omega arith) })
 
 -- the number with one pan more
 number_more : (i pans n : ℕ) (c : Bool) → pans + 2 ^ i * (bit c + 2 * n) ≡ (pans + bit c * 2 ^ i) + 2 ^ (i + 1) * n
@@ -153,14 +146,3 @@ reading_room {old} {ws} {as'} {wide = wide} {i = i} {row} h less =
     let d : free_pans old (drop i ws) (drop i as') ≤ free_pans old ws as' = free_drop old ws as' 0 i (omega arith) in
     let is : row ≡ wide * free_pans old (drop i ws) (drop i as') = rw (h.weights, h.ages) at h.at in
     omega (arith, h.within, mul-le-mul_left wide d, mul-add wide (free_pans old ws as') 1, mul-one wide)
-
--- no pan is left
-pub reading_all :
-    {old : ℕ} {ws as' us vs : List ℕ} {most wide x i row left pans : ℕ} {bytes : List ℕ} → Reading old ws as' us vs most wide x i row left pans bytes →
-    Rows old ws as' most wide 0 bytes → (length us ≡ length vs → (us ≡ []) × (vs ≡ [])) → length as' ≡ length ws → Read old ws as' x pans
-reading_all {old} {ws} {as'} {us} {vs} {most} {i = i} {row} {left} {bytes = bytes} h rows end paired =
-    let none = end (rw (h.weights, h.ages) (omega (arith, length-drop i ws, length-drop i as'))) in
-    let r : Row old us vs most row bytes = rw (h.at, h.weights, h.ages) (rows.row i (omega arith) h.reached) in
-    let l : Least old [] [] left (get_or bytes (row + left) 0) = rw (none.0, none.1) at (r.least left h.within) in
-    let g = h.goes [] (rw (none.0, none.1) (first_nothing l h.some)) in
-    record { choice = g.0; first = g.1; is = omega (arith, g.2) }

@@ -1,13 +1,8 @@
 -- What is left of the proof that all rows are filled.
-use Rattle.std.proofs.Common.{◌+◌, ◌<◌, length, length-take, inl, inr, arith}
-use Rattle.table.proofs.Filling.{left_all, left_next, left_none, left_skip, left_room, left_add}
+use Rattle.std.proofs.Common.{◌+◌, ◌<◌, inl, inr, arith}
+use Rattle.table.proofs.Filling.{left_next, left_skip, left_room, left_add}
 use Rattle.table.proofs.rows.fill.Goals as goal
 use Rattle.table.proofs.rows.fill.Goals.{else-a-ring-via-then-a-ring+else-w-gt0, else-a-ring-via-else-a-ring}
-
-pub loop-w-init : goal.loop-w-init
-loop-w-init c =
-    let long : c.args.span < length c.start_row.new.row = omega (arith, length-take (c.args.span + 1) c.args.room.now, c.requires.enough) in
-    ((tt, tt), tt, left_all c.start_row.new.row _ (cc) (cc) c.args.ring.paired long c.start_row.ensures.none (λ x low high. c.start_row.ensures.rest x low (omega (arith, c.start_row.auto.row))))
 
 pub add_pan-requires : goal.add_pan-requires
 add_pan-requires c =
@@ -34,6 +29,3 @@ loop-w-preserved c =
       | else-a-ring-via-then-a-ring+else-w-gt0 w ↦ ((tt, tt), tt, skip (inl (w.if-a-ring.true, w.if-w-gt0.false)))
       | else-a-ring-via-else-a-ring w ↦ ((tt, tt), tt, skip (inr w.if-a-ring.false))
     ]
-
-pub returns : goal.returns
-returns c = left_none c.next.new.self c.loop-w.invariant.2 c.in-None.ensures.steps

@@ -1,9 +1,7 @@
 -- What is left of the proof that the first choice is read.
-use Rattle.std.proofs.Common.{None, sym, refl, ◌∙◌, arith}
-use Rattle.std.specs.Iterator.Adapters.{enumerate_source}
-use Rattle.std.proofs.lemmas.Iterator.{empty_from_Zip}
+use Rattle.std.proofs.Common.{sym, ◌∙◌, arith}
 use Rattle.std.proofs.lemmas.Nat.{one_shl}
-use Rattle.table.proofs.Reading.{reading_fits, reading_due, reading_idle, reading_open, reading_shut, reading_room, reading_all}
+use Rattle.table.proofs.Reading.{reading_fits, reading_due, reading_idle, reading_open, reading_shut, reading_room}
 use Rattle.table.proofs.read.Table.read.Goals as goal
 
 pub opens-requires : goal.opens-requires
@@ -39,9 +37,3 @@ loop-pan-preserved c = (
   tt,
   reading_idle c.loop-pan.invariant.2 c.requires.rows c.args.self.ring.paired c.in-Some.ensures.steps c.if-a-self.false c.if-lies-gt0.false,
 )
-
-pub returns : goal.returns
-returns c =
-    let i = c.loop-pan.pan-iterator in
-    reading_all c.loop-pan.invariant.2 c.requires.rows
-    (empty_from_Zip (enumerate_source i) (enumerate_source c.next.new.self) None refl c.in-None.ensures.steps.0) c.args.self.ring.paired
