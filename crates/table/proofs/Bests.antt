@@ -1,6 +1,6 @@
 -- The first weight of the window that few enough pans make is the best bag's, and the first choice of it the best.
-use Rattle.std.proofs.Common.{◌≡◌, ℕ, ◌+◌, ◌-◌, ◌*◌, ◌<◌, ◌≤◌, min, Bool, true, false, cond, ◌&&◌, ◌||◌, eqb, ltb, leb, ◌⊎◌, List, [], ◌∷◌, length, get_or, None, sym, refl, ◌∙◌, inl, inr, mul-one, mul-add, arith}
-use Rattle.std.proofs.lemmas.Bool.{and_parts, and_from, both_ways, cases_lt, or_right, le-leb, leb-true}
+use Rattle.std.proofs.Common.{◌≡◌, ℕ, ◌+◌, ◌-◌, ◌*◌, ◌<◌, ◌≤◌, min, Bool, true, false, cond, ◌&&◌, ◌||◌, eqb, ltb, leb, ◌⊎◌, List, [], ◌∷◌, length, get_or, None, sym, refl, ◌∙◌, inl, inr, arith}
+use Rattle.std.proofs.lemmas.Bool.{and_parts, and_from, both_ways, cases_lt, false_from_ne_true, or_right, le-leb, leb-true}
 use Rattle.std.proofs.lemmas.Bool.Decides.{nat_tests}
 use Rattle.choices.specs.Choice.{Choice, weight_of, opened, none_empty, keeps_old, fits}
 use Rattle.choices.specs.declared.rule.Rule.{Rule}
@@ -8,7 +8,7 @@ use Rattle.choices.proofs.Choices.{Fitting, fitting, fits_from}
 use Rattle.order.specs.Order.{better, first_more, NoneOf, BestBag}
 use Rattle.table.specs.Pans.{due_weight, due_pans, free_weight, free_pans, none_due_empty, span_of, row_bytes, table_bytes}
 use Rattle.table.specs.Rows.{Makes, Row, Rows, Read, Lightest, LightestAt}
-use Rattle.table.specs.Surveyed.{Surveyed, LeavesABag, Laid}
+use Rattle.table.specs.Surveyed.{Surveyed}
 use Rattle.table.specs.declared.survey.Survey.{Survey}
 use Rattle.table.proofs.Making.{due_le}
 use Rattle.table.proofs.Surveying.{span_is}
@@ -78,22 +78,15 @@ wanted r ws as' cs paired h =
       small = omega (arith, opened_le cs, f.whole);
     }
 
-none_from : (r : Rule) (ws as' : List ℕ) → ((cs : Choice) → fits r ws as' cs ≡ true → ⊥) → NoneOf (fits r ws as')
-none_from r ws as' h cs = at (fits r ws as' cs) refl
-  where
-    at : (b : Bool) → fits r ws as' cs ≡ b → b ≡ false
-    at true e = absurd (h cs e)
-    at false e = refl
-
 -- where the pans that have to be opened leave no bag
 pub none_left :
     (r : Rule) (ws as' : List ℕ) → length as' ≡ length ws →
     (none_due_empty r.age ws as' && (leb (due_pans r.age as') r.pans && leb (due_weight r.age ws as') (r.target + r.above))) ≡ false →
     NoneOf (fits r ws as')
-none_left r ws as' paired test = none_from r ws as' at
+none_left r ws as' paired test cs = false_from_ne_true (fits r ws as' cs) at
   where
-    at : (cs : Choice) → fits r ws as' cs ≡ true → ⊥
-    at cs h =
+    at : fits r ws as' cs ≡ true → ⊥
+    at h =
         let f = fitting r ws as' cs h in
         let due = due_le r.age ws as' cs f.whole f.waited in
         let held = held_le r.age as' cs (f.whole ∙ sym paired) f.waited in
@@ -124,10 +117,10 @@ missed {y = y} {cs = cs} t w more =
 pub none_found :
     {r : Rule} {ws as' : List ℕ} {most start from limit : ℕ} {bytes : List ℕ} → Window r ws as' most start from limit bytes →
     Lightest bytes start from most limit None → NoneOf (fits r ws as')
-none_found {r} {ws} {as'} t h = none_from r ws as' at
+none_found {r} {ws} {as'} t h cs = false_from_ne_true (fits r ws as' cs) at
   where
-    at : (cs : Choice) → fits r ws as' cs ≡ true → ⊥
-    at cs f = let w = wanted r ws as' cs t.paired f in missed t w (h _ (omega (arith, t.enough, w.enough)) (omega (arith, t.span, w.within)))
+    at : fits r ws as' cs ≡ true → ⊥
+    at f = let w = wanted r ws as' cs t.paired f in missed t w (h _ (omega (arith, t.enough, w.enough)) (omega (arith, t.span, w.within)))
 
 not_better : (a b m n : ℕ) (f : Bool) → b ≤ a → (a ≡ b → n ≤ m) → (a ≡ b → m ≡ n → f ≡ false) → (ltb a b || (eqb a b && (ltb m n || (eqb m n && f)))) ≡ false
 not_better a b m n f heavy many first = grind (arith, nat_tests)
@@ -181,45 +174,27 @@ best_found {r} {ws} {as'} {most} {start} {from} {limit} {x} {number} {bytes} t h
 
 -- ---- what the look over the ring tells of all this
 
-pub leaves_from :
-    {r : Rule} {ws as' : List ℕ} {s : Survey} → Surveyed r.age ws as' s →
-    (s.ready && (leb s.held r.pans && leb s.due (r.target + r.above))) ≡ true → LeavesABag r ws as'
-leaves_from {r} {s = s} h test =
+pub rows_fit :
+    (r : Rule) {ws as' : List ℕ} {s : Survey} {most long : ℕ} → Surveyed r.age ws as' s → most ≡ min (r.target + r.above - s.due) s.free →
+    table_bytes r ws as' ≤ long → row_bytes most * (free_pans r.age ws as' + 1) ≤ long
+unfolding table_bytes
+rows_fit r {ws} {as'} {s} h is enough = rw (is ∙ span_is r ws as' s h) enough
+
+pub window :
+    {r : Rule} {ws as' : List ℕ} {s : Survey} {most from limit : ℕ} {bytes : List ℕ} → Surveyed r.age ws as' s →
+    (s.ready && (leb s.held r.pans && leb s.due (r.target + r.above))) ≡ true → length as' ≡ length ws → length ws ≤ 24 →
+    most ≡ min (r.target + r.above - s.due) s.free → Rows r.age ws as' most (row_bytes most) 0 bytes →
+    from ≡ r.target - s.due → limit ≡ min (r.pans - s.held) 254 → Window r ws as' most (row_bytes most * s.rows) from limit bytes
+window {r} {ws} {as'} {s} h test paired small is rows enough few =
     let p = and_parts s.ready _ test in
     let q = and_parts (leb s.held r.pans) _ p.1 in
     record {
-      filled = sym h.ready ∙ p.0;
-      few = omega (arith, leb-true s.held r.pans q.0, h.held);
-      light = omega (arith, leb-true s.due (r.target + r.above) q.1, h.due);
-    }
-
-pub laid :
-    {r : Rule} {ws as' : List ℕ} {s : Survey} {most long : ℕ} → Surveyed r.age ws as' s → r.target ≤ 1000000 → r.above ≤ 1000000 →
-    most ≡ min (r.target + r.above - s.due) s.free → table_bytes r ws as' ≤ long → Laid r ws as' most (row_bytes most * s.rows) long
-unfolding table_bytes
-laid {r} {ws} {as'} {s} {most} h target above is enough =
-    let span = is ∙ span_is r ws as' s h in
-    let room = rw (sym span) at enough in
-    record {
-      span = span;
-      small = omega arith;
-      enough = room;
-      top = rw h.rows refl;
-      last = rw h.rows (omega (arith, room, mul-add (row_bytes most) (free_pans r.age ws as') 1, mul-one (row_bytes most)));
-    }
-
-pub window :
-    {r : Rule} {ws as' : List ℕ} {s : Survey} {most start long from limit : ℕ} {bytes : List ℕ} → Surveyed r.age ws as' s → LeavesABag r ws as' →
-    Laid r ws as' most start long → length as' ≡ length ws → length ws ≤ 24 → Rows r.age ws as' most (row_bytes most) 0 bytes →
-    from ≡ r.target - s.due → limit ≡ min (r.pans - s.held) 254 → Window r ws as' most start from limit bytes
-window h leaves t paired small rows enough few =
-    record {
       paired = paired;
       small = small;
-      held = leaves.few;
-      due = leaves.light;
-      span = t.span;
-      row = rw t.top (rows.row 0 (omega arith) (omega arith));
+      held = omega (arith, leb-true s.held r.pans q.0, h.held);
+      due = omega (arith, leb-true s.due (r.target + r.above) q.1, h.due);
+      span = is ∙ span_is r ws as' s h;
+      row = rw h.rows (rows.row 0 (omega arith) (omega arith));
       enough = omega (arith, h.due);
       few = omega (arith, h.held);
     }

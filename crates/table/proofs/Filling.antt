@@ -1,6 +1,6 @@
 -- Rows that are filled from the last pan to the first: what one row more keeps and adds.
-use Rattle.std.proofs.Common.{◌≡◌, ℕ, zero, suc, ◌+◌, ◌-◌, ◌*◌, ◌<◌, ◌≤◌, min, true, false, ◌&&◌, ◌||◌, ltb, leb, ◌⊎◌, List, [], ◌∷◌, length, get_or, drop, sym, refl, inl, inr, mul-le-mul_left, mul-one, mul-add, arith}
-use Rattle.std.proofs.lemmas.List.{drop-drop, drop_all, drop_more}
+use Rattle.std.proofs.Common.{◌≡◌, ℕ, zero, suc, ◌+◌, ◌-◌, ◌*◌, ◌<◌, ◌≤◌, min, true, false, ◌&&◌, ◌||◌, ltb, leb, ◌⊎◌, List, [], ◌∷◌, length, get_or, drop, sym, refl, ◌∙◌, ◌++◌, append_assoc, length-append, inl, inr, mul-le-mul_left, mul-one, mul-add, arith}
+use Rattle.std.proofs.lemmas.List.{drop-drop, drop_all, drop_more, get_or_at}
 use Rattle.std.proofs.lemmas.Bool.{cases_lt, and_parts, both_ways, le-ltb, lt-ltb, le-leb, lt-leb}
 use Rattle.choices.specs.Choice.{bit}
 use Rattle.table.specs.Pans.{free_pans, none_due_empty}
@@ -24,22 +24,22 @@ free_drop old ws as' i j h =
     let le = free_drop_le old (j - i) (drop i ws) (drop i as') in
     rw (drop-drop (j - i) i ws, drop-drop (j - i) i as', e) at le
 
-pub row_same :
+row_same :
     {old : ℕ} {ws as' : List ℕ} {most start : ℕ} {bytes bytes' : List ℕ} → Row old ws as' most start bytes →
     ((j : ℕ) → j ≤ start + most → get_or bytes' j 0 ≡ get_or bytes j 0) → Row old ws as' most start bytes'
 row_same {start = start} h same = record { least = λ x low. rw (same (start + x) (omega arith)) (h.least x low) }
 
-pub row_due :
+row_due :
     {old w a : ℕ} {ws as' : List ℕ} {most start : ℕ} {bytes : List ℕ} → ltb a old ≡ false → leb 1 w ≡ true →
     Row old ws as' most start bytes → Row old (w ∷ ws) (a ∷ as') most start bytes
 row_due e f h = record { least = λ x low. least_due e f (h.least x low) }
 
-pub row_idle :
+row_idle :
     {old w a : ℕ} {ws as' : List ℕ} {most start : ℕ} {bytes : List ℕ} → ltb a old ≡ true → (leb 1 w ≡ true → ⊥) →
     Row old ws as' most start bytes → Row old (w ∷ ws) (a ∷ as') most start bytes
 row_idle e f h = record { least = λ x low. least_barred e (λ g _. f g) (h.least x low) }
 
-pub row_free :
+row_free :
     {old w a : ℕ} {ws as' : List ℕ} {most start next : ℕ} {bytes bytes' : List ℕ} → ltb a old ≡ true → leb 1 w ≡ true →
     Row old ws as' most start bytes →
     ((x : ℕ) → x ≤ most → x < w → get_or bytes' (next + x) 0 ≡ get_or bytes (start + x) 0) →
@@ -56,7 +56,7 @@ pub record Filling (old : ℕ) (ws as' : List ℕ) (most wide pan top : ℕ) (by
   pub at : top ≡ wide * free_pans old (drop pan ws) (drop pan as')
   pub rows : Rows old ws as' most wide pan bytes
 
-pub filling_none :
+filling_none :
     (old : ℕ) (ws as' : List ℕ) (most wide : ℕ) (bytes : List ℕ) → length as' ≡ length ws → get_or bytes 0 0 ≡ 0 →
     ((x : ℕ) → 1 ≤ x → x < most + 1 → get_or bytes x 0 ≡ 255) → Filling old ws as' most wide (length ws) 0 bytes
 filling_none old ws as' most wide bytes paired none rest =
@@ -82,10 +82,7 @@ rows_more {old} {ws} {as'} {most} {wide} {pan} {top} {bytes} {bytes'} h less sam
         row_same (h.rows.row i (omega arith) high) (λ j le. same j (omega (arith, h.at, mul-le-mul_left wide few)))
     at i high (inr here) low = let e : i ≡ pan = omega arith in rw e newest
 
--- what each pan is that has no row: one that has to be opened and is not empty, or one that is empty and may wait
-abbrev pub Rowless : ℕ → ℕ → ℕ → Type 0
-Rowless old w a = ((ltb a old ≡ false) × (leb 1 w ≡ true)) ⊎ ((ltb a old ≡ true) × (leb 1 w ≡ false))
-
+-- a pan that has to be opened is not empty
 none_due_at :
     (old : ℕ) (ws as' : List ℕ) (i : ℕ) → i < length ws → length as' ≡ length ws → none_due_empty old ws as' ≡ true →
     (ltb (get_or as' i 0) old || leb 1 (get_or ws i 0)) ≡ true
@@ -95,77 +92,115 @@ none_due_at old (w ∷ ws) (a ∷ as') zero few paired h = (and_parts (ltb a old
 none_due_at old (w ∷ ws) (a ∷ as') (suc i) few paired h =
     none_due_at old ws as' i (omega arith) (omega arith) (and_parts (ltb a old || leb 1 w) (none_due_empty old ws as') h).1
 
-pub due_filled :
-    (old : ℕ) (ws as' : List ℕ) (i : ℕ) → i < length ws → length as' ≡ length ws → none_due_empty old ws as' ≡ true →
-    old ≤ get_or as' i 0 → (ltb (get_or as' i 0) old ≡ false) × (leb 1 (get_or ws i 0) ≡ true)
-due_filled old ws as' i few paired ready waited =
-    let e = le-ltb (get_or as' i 0) old waited in (e, rw e at (none_due_at old ws as' i few paired ready))
+-- ---- gone over from the back
 
-pub rowless :
-    (old : ℕ) (ws as' : List ℕ) (i : ℕ) → i < length ws → length as' ≡ length ws → none_due_empty old ws as' ≡ true →
-    ((get_or as' i 0 < old) × (get_or ws i 0 ≤ 0)) ⊎ (old ≤ get_or as' i 0) → Rowless old (get_or ws i 0) (get_or as' i 0)
-rowless old ws as' i few paired ready (inl (young, empty)) = inr (lt-ltb _ _ young, lt-leb _ _ (omega arith))
-rowless old ws as' i few paired ready (inr waited) = inl (due_filled old ws as' i few paired ready waited)
+-- the front of a list
+pub record Front (us xs : List ℕ) : Type 0 where
+  pub rest : List ℕ
+  pub is : us ++ rest ≡ xs
 
-module _ (old : ℕ) (ws as' : List ℕ) (i : ℕ) (few : i < length ws) (paired : length as' ≡ length ws) where
-  pub drop_weights : drop i ws ≡ get_or ws i 0 ∷ drop (i + 1) ws
-  drop_weights = drop_more ws i 0 few
+front_less :
+    {us us' xs : List ℕ} {x : ℕ} → us ≡ us' ++ x ∷ [] → Front us xs → Front us' xs × (length us ≡ length us' + 1) × (length us' < length xs) × (get_or xs (length us') 0 ≡ x)
+front_less {us} {us'} {xs} {x} e h = (
+  record { rest = x ∷ h.rest; is = is },
+  rw e (omega (arith, length-append us' (x ∷ []))),
+  rw (← is) (omega (arith, length-append us' (x ∷ h.rest))),
+  rw (← is) (get_or_at us' x h.rest 0 (length us') refl),
+)
+  where
+    is : us' ++ x ∷ h.rest ≡ xs
+    is = sym (append_assoc us' (x ∷ []) h.rest) ∙ (rw e at h.is)
 
-  pub drop_ages : drop i as' ≡ get_or as' i 0 ∷ drop (i + 1) as'
-  drop_ages = drop_more as' i 0 (omega arith)
+-- the pans in us and vs are left
+pub record Left (old : ℕ) (ws as' : List ℕ) (most wide : ℕ) (us vs : List ℕ) (top : ℕ) (bytes : List ℕ) : Type 0 where
+  pub paired : length vs ≡ length us
+  pub weights : Front us ws
+  pub ages : Front vs as'
+  pub filled : Filling old ws as' most wide (length us) top bytes
 
-  pub free_next : free_pans old (drop i ws) (drop i as') ≡ bit (ltb (get_or as' i 0) old && leb 1 (get_or ws i 0)) + free_pans old (drop (i + 1) ws) (drop (i + 1) as')
-  free_next = rw (drop_weights, drop_ages)
+-- the last of them is gone over, and leaves those before it
+pub record Next (old : ℕ) (ws as' : List ℕ) (most wide : ℕ) (us vs : List ℕ) (w a top : ℕ) (bytes : List ℕ) : Type 0 where
+  pub few : length us < length ws
+  pub weight : get_or ws (length us) 0 ≡ w
+  pub age : get_or as' (length us) 0 ≡ a
+  pub before : Filling old ws as' most wide (length us + 1) top bytes
+  pub after : {top' : ℕ} {bytes' : List ℕ} → Filling old ws as' most wide (length us) top' bytes' → Left old ws as' most wide us vs top' bytes'
 
-  pub free_rowless : Rowless old (get_or ws i 0) (get_or as' i 0) → free_pans old (drop i ws) (drop i as') ≡ free_pans old (drop (i + 1) ws) (drop (i + 1) as')
-  free_rowless (inl (e, f)) = let n = rw e at free_next in omega arith
-  free_rowless (inr (e, f)) = let n = rw (e, f) at free_next in omega arith
+pub left_next :
+    {old : ℕ} {ws as' : List ℕ} {most wide : ℕ} {us vs us' vs' : List ℕ} {w a top : ℕ} {bytes : List ℕ} → Left old ws as' most wide us vs top bytes →
+    us ≡ us' ++ w ∷ [] → vs ≡ vs' ++ a ∷ [] → Next old ws as' most wide us' vs' w a top bytes
+left_next {us' = us'} {vs' = vs'} h e f =
+    let u = front_less e h.weights in
+    let v = front_less f h.ages in
+    let same : length vs' ≡ length us' = omega (arith, h.paired, u.1, v.1) in
+    record {
+      few = u.2;
+      weight = u.3;
+      age = rw same at v.3;
+      before = rw u.1 at h.filled;
+      after = λ more. record { paired = same; weights = u.0; ages = v.0; filled = more };
+    }
 
-  row_rowless :
-      {most start : ℕ} {bytes : List ℕ} → Rowless old (get_or ws i 0) (get_or as' i 0) →
-      Row old (drop (i + 1) ws) (drop (i + 1) as') most start bytes → Row old (drop i ws) (drop i as') most start bytes
-  row_rowless (inl (e, f)) h = rw (drop_weights, drop_ages) (row_due e f h)
-  row_rowless (inr (e, f)) h = rw (drop_weights, drop_ages) (row_idle e (λ g. both_ways _ f g) h)
+module _
+    {old most wide w a top : ℕ} {ws as' us vs bytes : List ℕ} (n : Next old ws as' most wide us vs w a top bytes) (paired : length as' ≡ length ws) (less : most < wide)
+  where
+    weights : drop (length us) ws ≡ w ∷ drop (length us + 1) ws
+    weights = rw n.weight at (drop_more ws (length us) 0 n.few)
 
-  -- a pan that has no row of its own
-  pub filling_skip :
-      {most wide top : ℕ} {bytes : List ℕ} → most < wide → Rowless old (get_or ws i 0) (get_or as' i 0) →
-      Filling old ws as' most wide (i + 1) top bytes → Filling old ws as' most wide i top bytes
-  filling_skip {most} {wide} {top} {bytes} less kind h =
-      let e = free_rowless kind in
-      record { at = rw e h.at; rows = rows_more h less (λ j _. refl) (rw e (row_rowless kind (h.rows.row (i + 1) (omega arith) (omega arith)))) }
+    ages : drop (length us) as' ≡ a ∷ drop (length us + 1) as'
+    ages = rw n.age at (drop_more as' (length us) 0 (omega (arith, n.few)))
 
-  -- a pan that has one
-  pub filling_add :
-      {most wide top : ℕ} {bytes bytes' : List ℕ} → most < wide → ltb (get_or as' i 0) old ≡ true → leb 1 (get_or ws i 0) ≡ true →
-      Filling old ws as' most wide (i + 1) top bytes →
-      ((j : ℕ) → j < top + wide → get_or bytes' j 0 ≡ get_or bytes j 0) →
-      ((x : ℕ) → x ≤ most → x < get_or ws i 0 → get_or bytes' (top + wide + x) 0 ≡ get_or bytes (top + x) 0) →
-      ((x : ℕ) → x ≤ most → get_or ws i 0 ≤ x → get_or bytes' (top + wide + x) 0 ≡ min (get_or bytes (top + x) 0) (min (get_or bytes (top + (x - get_or ws i 0)) 0 + 1) 255)) →
-      Filling old ws as' most wide i (top + wide) bytes'
-  filling_add {most} {wide} {top} {bytes} {bytes'} less e f h same without with = record { at = place; rows = rows_more h less same (rw (sym place) whole) }
-    where
-      place : top + wide ≡ wide * free_pans old (drop i ws) (drop i as')
-      place =
-          let n : free_pans old (drop i ws) (drop i as') ≡ 1 + free_pans old (drop (i + 1) ws) (drop (i + 1) as') = rw (e, f) at free_next in
-          rw n (omega (arith, mul-add wide 1 (free_pans old (drop (i + 1) ws) (drop (i + 1) as')), mul-one wide, h.at))
+    free_next : free_pans old (drop (length us) ws) (drop (length us) as') ≡ bit (ltb a old && leb 1 w) + free_pans old (drop (length us + 1) ws) (drop (length us + 1) as')
+    free_next = rw (weights, ages)
 
-      older : Row old (drop (i + 1) ws) (drop (i + 1) as') most top bytes
-      older = rw h.at (h.rows.row (i + 1) (omega arith) (omega arith))
+    older : Row old (drop (length us + 1) ws) (drop (length us + 1) as') most top bytes
+    older = rw n.before.at (n.before.rows.row (length us + 1) (omega arith) (omega (arith, n.few)))
 
-      whole : Row old (drop i ws) (drop i as') most (top + wide) bytes'
-      whole = rw (drop_weights, drop_ages) (row_free e f older without with)
+    -- a pan that has no row of its own
+    skip :
+        free_pans old (drop (length us) ws) (drop (length us) as') ≡ free_pans old (drop (length us + 1) ws) (drop (length us + 1) as') →
+        Row old (w ∷ drop (length us + 1) ws) (a ∷ drop (length us + 1) as') most top bytes → Left old ws as' most wide us vs top bytes
+    skip e row = n.after (record { at = place; rows = rows_more n.before less (λ j _. refl) (rw (← place) (rw (weights, ages) row)) })
+      where
+        place : top ≡ wide * free_pans old (drop (length us) ws) (drop (length us) as')
+        place = rw e n.before.at
 
--- there is room for a row more wherever a pan is left that wants one
-pub filling_room :
-    {old : ℕ} {ws as' : List ℕ} {most wide pan top : ℕ} {bytes : List ℕ} → Filling old ws as' most wide pan top bytes → 0 < pan → pan ≤ length ws →
-    length as' ≡ length ws → get_or as' (pan - 1) 0 < old → 0 < get_or ws (pan - 1) 0 → top + wide + wide ≤ wide * (free_pans old ws as' + 1)
-filling_room {old} {ws} {as'} {most} {wide} {pan} {top} h some few paired young full =
-    let i : ℕ = pan - 1 in
-    let here : i + 1 ≡ pan = omega arith in
-    let e = lt-ltb (get_or as' i 0) old young in
-    let f = le-leb 1 (get_or ws i 0) (omega arith) in
-    let n : free_pans old (drop i ws) (drop i as') ≡ 1 + free_pans old (drop (i + 1) ws) (drop (i + 1) as') = rw (e, f) at (free_next old ws as' i (omega arith) paired) in
-    let last : free_pans old (drop i ws) (drop i as') ≡ 1 + free_pans old (drop pan ws) (drop pan as') = rw here at n in
-    let m : free_pans old (drop pan ws) (drop pan as') + 1 ≤ free_pans old ws as' = omega (arith, last, free_drop_le old i ws as') in
-    omega (arith, mul-add wide (free_pans old (drop pan ws) (drop pan as')) 1, mul-add wide (free_pans old ws as') 1, mul-one wide, mul-le-mul_left wide m, h.at)
+    pub left_skip : none_due_empty old ws as' ≡ true → ((a < old) × (w ≤ 0)) ⊎ (old ≤ a) → Left old ws as' most wide us vs top bytes
+    left_skip ready (inl (young, empty)) =
+        let e = lt-ltb a old young in
+        let f = lt-leb 1 w (omega arith) in
+        let k = rw (e, f) at free_next in
+        skip (omega arith) (row_idle e (λ g. both_ways _ f g) older)
+    left_skip ready (inr waited) =
+        let e = le-ltb a old waited in
+        let f = rw (n.weight, n.age) at (none_due_at old ws as' (length us) n.few paired ready) in
+        let k = rw e at free_next in
+        skip (omega arith) (row_due e (rw e at f) older)
+
+    module _ (young : a < old) (full : 0 < w) where
+      e : ltb a old ≡ true
+      e = lt-ltb a old young
+
+      f : leb 1 w ≡ true
+      f = le-leb 1 w (omega arith)
+
+      one_more : free_pans old (drop (length us) ws) (drop (length us) as') ≡ 1 + free_pans old (drop (length us + 1) ws) (drop (length us + 1) as')
+      one_more = rw (e, f) at free_next
+
+      -- there is room for its row
+      pub left_room : top + wide + wide ≤ wide * (free_pans old ws as' + 1)
+      left_room =
+          let m : free_pans old (drop (length us + 1) ws) (drop (length us + 1) as') + 1 ≤ free_pans old ws as' = omega (arith, one_more, free_drop_le old (length us) ws as') in
+          omega
+          (arith, mul-add wide (free_pans old (drop (length us + 1) ws) (drop (length us + 1) as')) 1, mul-add wide (free_pans old ws as') 1, mul-one wide, mul-le-mul_left wide m, n.before.at)
+
+      pub left_add :
+          {bytes' : List ℕ} → ((j : ℕ) → j < top + wide → get_or bytes' j 0 ≡ get_or bytes j 0) →
+          ((x : ℕ) → x ≤ most → x < w → get_or bytes' (top + wide + x) 0 ≡ get_or bytes (top + x) 0) →
+          ((x : ℕ) → x ≤ most → w ≤ x → get_or bytes' (top + wide + x) 0 ≡ min (get_or bytes (top + x) 0) (min (get_or bytes (top + (x - w)) 0 + 1) 255)) →
+          Left old ws as' most wide us vs (top + wide) bytes'
+      left_add same without with =
+          n.after (record { at = place; rows = rows_more n.before less same (rw (← place) (rw (weights, ages) (row_free e f older without with))) })
+        where
+          place : top + wide ≡ wide * free_pans old (drop (length us) ws) (drop (length us) as')
+          place = rw one_more (omega (arith, mul-add wide 1 (free_pans old (drop (length us + 1) ws) (drop (length us + 1) as')), mul-one wide, n.before.at))

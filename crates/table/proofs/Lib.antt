@@ -1,5 +1,4 @@
 -- The lemmas that several proofs share.
-mod Writing
 mod Making
 mod Surveying
 mod Filling

@@ -1,6 +1,6 @@
 -- One look over the pans for the table, pan by pan: what is seen so far and what is left make up the whole.
-use Rattle.std.proofs.Common.{◌≡◌, ℕ, suc, ◌+◌, ◌-◌, ◌*◌, ◌≤◌, min, Bool, true, false, cond, ◌&&◌, ◌||◌, ltb, leb, List, [], ◌∷◌, length, get_or, sym, refl, ◌∙◌, arith}
-use mathlib.Core.Bool.{and-true}
+use Rattle.std.proofs.Common.{◌≡◌, ℕ, suc, ◌+◌, ◌-◌, ◌*◌, ◌≤◌, min, Bool, true, false, cond, ◌&&◌, ◌||◌, ltb, leb, List, ◌∷◌, length, get_or, arith}
+use mathlib.Core.Bool.{and_assoc}
 use Rattle.choices.specs.Choice.{bit}
 use Rattle.choices.specs.declared.rule.Rule.{Rule}
 use Rattle.table.specs.Pans.{due_weight, due_pans, free_weight, free_pans, none_due_empty, span_of}
@@ -18,10 +18,6 @@ pub record Surveying (old : ℕ) (ws as'' ws' as' : List ℕ) (s : Survey) : Typ
   pub free : s.free + free_weight old ws' as' ≡ free_weight old ws as''
   pub rows : s.rows + free_pans old ws' as' ≡ free_pans old ws as''
   pub ready : (s.ready && none_due_empty old ws' as') ≡ none_due_empty old ws as''
-
-regroup : (s a n : Bool) → ((s && a) && n) ≡ (s && (a && n))
-regroup false a n = refl
-regroup true a n = refl
 
 split : (b : Bool) (w : ℕ) → cond b 0 w + cond b w 0 ≡ w
 split true w = omega arith
@@ -50,31 +46,10 @@ surveying_next {old} {ws} {as''} {w} {a} {ws₁} {as₁} {ws'} {as'} {s} {t} h�
       held = omega (arith, h.held);
       free = omega (arith, h.free);
       rows = omega (arith, h.rows);
-      ready = rw (ready, regroup) h.ready;
+      ready = rw (ready, and_assoc) h.ready;
     }
   where
     h : Surveying old ws as'' (w ∷ ws') (a ∷ as') s
-    h = rw (e, f) at h₁
-
-pub surveying_room :
-    {old : ℕ} {ws as'' : List ℕ} {w : ℕ} {ws₁ as₁ ws' : List ℕ} {s : Survey} →
-    Surveying old ws as'' ws₁ as₁ s → ws₁ ≡ w ∷ ws' → (s.due + s.free + w ≤ 24000000) × (s.held + s.rows + 1 ≤ 24)
-surveying_room h e = let k = rw e at h in omega (arith, k.each 0, k.light, k.few)
-
-pub surveying_all :
-    {old : ℕ} {ws as'' ws' as' : List ℕ} {s : Survey} → Surveying old ws as'' ws' as' s → ws' ≡ [] → as' ≡ [] → Surveyed old ws as'' s
-surveying_all {old} {ws} {as''} {ws'} {as'} {s} h₁ e f =
-    record {
-      due = omega (arith, h.due);
-      held = omega (arith, h.held);
-      free = omega (arith, h.free);
-      rows = omega (arith, h.rows);
-      ready = sym (and-true s.ready) ∙ h.ready;
-      light = omega (arith, h.light);
-      few = omega (arith, h.few);
-    }
-  where
-    h : Surveying old ws as'' [] [] s
     h = rw (e, f) at h₁
 
 pub span_is : (r : Rule) (ws as' : List ℕ) (s : Survey) → Surveyed r.age ws as' s → min (r.target + r.above - s.due) s.free ≡ span_of r ws as'

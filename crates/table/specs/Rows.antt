@@ -1,5 +1,4 @@
 -- What the rows of a table hold. Assumes nothing: these are definitions.
---   Written    nothing before a place has changed, and from there on stand so many given bytes
 --   Makes      a choice of some pans that opens every pan that has to be opened and none that is empty, and weighs so
 --              much more than the pans that have to be opened
 --   Least      the least number of pans, beside those that have to be opened, in such a choice; 255: there is none
@@ -13,10 +12,6 @@ use Rattle.choices.specs.Choice.{Choice, weight_of, opened, none_empty, keeps_ol
 use Rattle.choices.specs.Numbered.{number_of}
 use Rattle.order.specs.Order.{first_more}
 use Rattle.table.specs.Pans.{due_weight, due_pans, free_pans}
-
-pub record Written (before after : List ℕ) (start count : ℕ) (value : ℕ → ℕ) : Type 0 where
-  pub same : (j : ℕ) → j < start → slice_index after j ≡ slice_index before j
-  pub made : (x : ℕ) → x < count → slice_index after (start + x) ≡ value x
 
 pub record Makes (old : ℕ) (ws as' : List ℕ) (x : ℕ) (cs : Choice) : Type 0 where
   pub whole : length cs ≡ length ws

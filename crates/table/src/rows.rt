@@ -1,7 +1,7 @@
 // The rows of the table: for each weight the least number of free pans that weigh so much.
-ghost use Rattle.std.specs.Prelude.{◌≡◌, ℕ, ◌+◌, ◌-◌, ◌*◌, ◌<◌, ◌≤◌, min, true, length, slice_index};
+ghost use Rattle.std.specs.Prelude.{◌≡◌, ℕ, ◌+◌, ◌-◌, ◌*◌, ◌<◌, ◌≤◌, min, true, length, slice_index, EachIndex};
 ghost use Rattle.table.specs.Pans.{free_pans, none_due_empty, row_bytes};
-ghost use Rattle.table.specs.Rows.{Rows, Written};
+ghost use Rattle.table.specs.Rows.{Rows};
 
 use choices::Ring;
 
@@ -18,52 +18,55 @@ fn blocks(bytes: usize) -> usize
 }
 
 // The row of no pan at all: weight 0 takes no pan, and nothing else can be made.
-fn start_row(room: &mut [u8], width: usize)
-    requires { (1 ≤ width) × (width ≤ length room.old) }
-    ensures none { slice_index room.new 0 ≡ 0 }
-    ensures rest { (x : ℕ) → 1 ≤ x → x < width → slice_index room.new x ≡ 255 }
+fn start_row(row: &mut [u8])
+    requires { 1 ≤ length row.old }
+    ensures none { slice_index row.new 0 ≡ 0 }
+    ensures rest { (x : ℕ) → 1 ≤ x → x < length row.old → slice_index row.new x ≡ 255 }
 {
-    for x in 0..width {
-        room[x] = 255;
-    }
-    room[0] = 0;
+    row.fill(255);
+    row[0] = 0;
 }
 
-// Weights below a pan's are made without it: the row's front goes on unchanged.
-fn copy_row(room: &mut [u8], row: usize, next: usize, count: usize)
-    requires { (row + count ≤ next) × (next + count ≤ length room.old) }
-    ensures { Written room.old room.new next count (λ x. slice_index room.old (row + x)) }
+// Weights below a pan's are made without it. `copy_from_slice` was tried: its call makes a bag by short rows a third slower.
+fn copy_row(row: &mut [u8], without: &[u8])
+    requires { length without.now ≡ length row.old }
+    ensures { EachIndex row.old (λ x. slice_index row.new x ≡ slice_index without.now x) }
 {
-    for x in 0..count {
-        room[next + x] = room[row + x];
+    for (x, least) in row.iter_mut().enumerate() {
+        *least = without[x];
     }
 }
 
 // Weights from a pan's on: without it, or with it and one pan more than the rest takes, whichever is less.
-fn join_row(room: &mut [u8], row: usize, next: usize, weight: usize, count: usize)
-    requires { (row + weight + count ≤ next) × (next + weight + count ≤ length room.old) }
-    ensures { Written room.old room.new (next + weight) count (λ x. min (slice_index room.old (row + weight + x)) (min (slice_index room.old (row + x) + 1) 255)) }
+// The index stays: with a zip of `iter_mut` the proof did not close, since it knows no element that such a loop wrote.
+fn join_row(row: &mut [u8], without: &[u8], with: &[u8])
+    requires { (length without.now ≡ length row.old) × (length with.now ≡ length row.old) }
+    ensures { EachIndex row.old (λ x. slice_index row.new x ≡ min (slice_index without.now x) (min (slice_index with.now x + 1) 255)) }
 {
-    let without = row + weight;
-    let to = next + weight;
-    for x in 0..count {
-        let with = room[row + x].saturating_add(1);
-        room[to + x] = room[without + x].min(with);
+    for (x, least) in row.iter_mut().enumerate() {
+        *least = without[x].min(with[x].saturating_add(1));
     }
 }
 
-// The row with one free pan more, behind the row without it.
+// The row with one free pan more, behind the row without it. Both passes go over whole blocks.
 fn add_pan(room: &mut [u8], row: usize, wide: usize, weight: usize)
     requires { (16 ≤ wide) × ((wide ≤ 3000000) × (row + wide + wide ≤ length room.old)) }
     ensures same { (j : ℕ) → j < row + wide → slice_index room.new j ≡ slice_index room.old j }
     ensures without { (x : ℕ) → x + 16 ≤ wide → x < weight → slice_index room.new (row + wide + x) ≡ slice_index room.old (row + x) }
     ensures with { (x : ℕ) → x + 16 ≤ wide → weight ≤ x → slice_index room.new (row + wide + x) ≡ min (slice_index room.old (row + x)) (min (slice_index room.old (row + (x - weight)) + 1) 255) }
 {
-    let next = row + wide;
     let width = wide - (BLOCK - 1);
     let low = weight.min(width);
-    copy_row(room, row, next, blocks(low));
-    join_row(room, row, next, low, blocks(width - low));
+    let front = blocks(low);
+    let count = blocks(width - low);
+    let (rows, next) = room.split_at_mut(row + wide);
+    let last = &rows[row..];
+    copy_row(&mut next[..front], &last[..front]);
+    join_row(
+        &mut next[low..low + count],
+        &last[low..low + count],
+        &last[..count],
+    );
 }
 
 // Every row, from that of no pan to that of all pans: a pan that has to be opened, or is empty, takes none.
@@ -74,12 +77,11 @@ pub fn fill(ring: Ring, span: usize, room: &mut [u8])
     ensures { Rows ring.entry.rule.age ring.entry.weights.now ring.entry.ages.now span (row_bytes span) 0 room.new }
 {
     let wide = span + BLOCK;
-    start_row(room, span + 1);
+    start_row(&mut room[..span + 1]);
     let mut top = 0;
-    for pan in (0..ring.weights.len()).rev() {
-        let weight = ring.weights[pan];
-        if ring.ages[pan] < ring.rule.age && weight > 0 {
-            add_pan(room, top, wide, weight as usize);
+    for (w, a) in ring.weights.iter().rev().zip(ring.ages.iter().rev()) {
+        if *a < ring.rule.age && *w > 0 {
+            add_pan(room, top, wide, *w as usize);
             top += wide;
         }
     }

@@ -36,18 +36,14 @@ impl Survey {
         if may_wait {
             Survey {
                 free: self.free + weight,
-                rows: if weight >= 1 {
-                    self.rows + 1
-                } else {
-                    self.rows
-                },
+                rows: self.rows + usize::from(weight >= 1),
                 ..self
             }
         } else {
             Survey {
                 due: self.due + weight,
                 held: self.held + 1,
-                ready: self.ready & (weight >= 1),
+                ready: self.ready && weight >= 1,
                 ..self
             }
         }
@@ -58,7 +54,7 @@ impl Survey {
         requires { rule.target + rule.above < 2 ^ 32 }
         ensures { result ≡ (self.ready && (nat_le self.held rule.pans && nat_le self.due (rule.target + rule.above))) }
     {
-        self.ready & ((self.held <= rule.pans) & (self.due <= rule.target + rule.above))
+        self.ready && self.held <= rule.pans && self.due <= rule.target + rule.above
     }
 
     // The most that the free pans of a bag may weigh.

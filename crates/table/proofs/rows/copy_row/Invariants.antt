@@ -1,7 +1,6 @@
 -- What the loop that copies a row's front keeps.
-use Rattle.std.proofs.Common.{◌+◌, get_or}
-use Rattle.table.specs.Rows.{Written}
+use Rattle.std.proofs.Common.{◌≡◌, ℕ, ◌<◌, get_or}
 use Rattle.table.proofs.rows.copy_row.Given as goal
 
 abbrev pub invariant-loop-x : goal.invariant-loop-x
-invariant-loop-x l = Written l.initial.room l.room l.next l.x (λ x. get_or l.initial.room (l.row + x) 0)
+invariant-loop-x l = (k : ℕ) → k < l.x → get_or l.row k 0 ≡ get_or l.without k 0
