@@ -8,7 +8,8 @@ use packing::bag_in;
 use seasons::{fall, season};
 use text::Reply;
 
-// A bag is made of the lent pans, or it is said why not.
+// A bag is made of the lent pans, or it is said why not. Entries and bytes are lent one by one: lent as `Rooms`, the desk's
+// proof no longer knew afterwards how many entries it has.
 pub fn bag_reply(
     rule: &[u32],
     pans: &mut [u32],

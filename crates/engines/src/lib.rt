@@ -3,4 +3,4 @@
 
 mod rooms;
 
-pub use rooms::{Rooms, best};
+pub use rooms::Rooms;

@@ -1,6 +1,4 @@
 // Rooms lent for every engine, and which of them runs in these.
-ghost use Rattle.choices.specs.Choice.{fits};
-ghost use Rattle.order.specs.Order.{Found};
 ghost use Rattle.std.specs.Prelude.{None};
 
 use answers::Refusal;
@@ -18,21 +16,6 @@ pub struct Rooms<'a> {
 // A table of more bytes than so many times the halves' entries takes longer than the halves do (measured, see bench/).
 const PAYS: usize = 50;
 
-// The table by weight where its rows fit the lent bytes and pay; else the two halves, where these fit the lent entries;
-// else the scan, which takes no room at all. Nothing is said of what the rooms hold afterwards.
-pub fn best(ring: Ring, entries: &mut [u64], bytes: &mut [u8]) -> Option<Bag>
-    ensures { Found (fits ring.entry.rule ring.entry.weights.now ring.entry.ages.now) ring.entry.weights.now result }
-{
-    let takes = halves::room_for(ring.weights.len());
-    if table::room_for(ring) <= bytes.len().min(PAYS * takes) {
-        table::best(ring, bytes)
-    } else if takes <= entries.len() {
-        halves::best(ring, entries)
-    } else {
-        search::best(ring)
-    }
-}
-
 impl<'a> Finder for Rooms<'a> {
     ghost lacks = { λ _ _ _ _. None };
 
@@ -40,7 +23,16 @@ impl<'a> Finder for Rooms<'a> {
         None
     }
 
+    // The table by weight where its rows fit the lent bytes and pay; else the two halves, where these fit the lent entries;
+    // else the scan, which takes no room at all.
     fn best(&mut self, ring: Ring) -> Option<Bag> {
-        best(ring, self.entries, self.bytes)
+        let takes = halves::room_for(ring.weights.len());
+        if table::room_for(ring) <= self.bytes.len().min(PAYS * takes) {
+            table::best(ring, self.bytes)
+        } else if takes <= self.entries.len() {
+            halves::best(ring, self.entries)
+        } else {
+            search::best(ring)
+        }
     }
 }

@@ -20,12 +20,7 @@ fn number(found: Option<Bag>) -> u64
 }
 
 // What a finder answers, as one number.
-fn tell<'a, F: Finder>(
-    rule: &[u32],
-    weights: &'a [u32],
-    ages: &'a [u32],
-    finder: &mut F,
-) -> u64
+fn tell<'a, F: Finder>(rule: &[u32], weights: &'a [u32], ages: &'a [u32], finder: &mut F) -> u64
     ensures { Says (or_else (first_refusal rule.now weights.now ages.now) (F.lacks finder.old (rule_in rule.now) weights.now ages.now)) (rule_in rule.now) weights.now ages.now result }
 {
     match find(rule, weights, ages, finder) {
