@@ -82,13 +82,6 @@ module _ (line : List ℕ) (end : ℕ) (b : FirstBlank line end) where
         let r = cut_word w ns e in
         none ns (subst (λ v. Takes v (length ns)) (same_word w word (sym r.0 ∙ spelled)) takes) r.1
 
-    pub says : (c : Command) → word_of c ≡ word → (ns : List ℕ) → drop end line ≡ spaced ns → numbers_of c ≡ map capped ns → Says line c
-    says c named ns behind kept = record {
-      numbers = ns;
-      line = sym (take-append-drop end line) ∙ (λ i. spelled i ++ behind i) ∙ ap (λ w. spelling w ++ spaced ns) (sym named);
-      kept = kept;
-    }
-
     -- why the numbers behind the word were not read
     pub unread : (text : List ℕ) → text ≡ drop end line → (Passed line → ⊥) → (f : Fault) → Filled word text (Err f) → Reads line (Err f)
     unread text behind other Unreadable none = (other, no_numbers (λ ns takes e. none ns takes (behind ∙ e)))

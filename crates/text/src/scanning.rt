@@ -43,10 +43,8 @@ pub fn exactly<const N: usize>(text: &[u8]) -> Result<[u32; N], Fault>
 {
     let mut numbers = [0; N];
     let mut rest = text;
-    for i in 0..N {
-        let (n, more) = next(rest).ok_or(Fault::Unreadable)?;
-        numbers[i] = n;
-        rest = more;
+    for number in numbers.iter_mut() {
+        (*number, rest) = next(rest).ok_or(Fault::Unreadable)?;
     }
     if !rest.is_empty() {
         return Err(Fault::Unreadable);

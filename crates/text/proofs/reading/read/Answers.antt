@@ -1,7 +1,7 @@
 -- The word up to the first blank, and the numbers behind it.
 use Rattle.std.proofs.Common.{sym, ◌∙◌}
 use Rattle.std.proofs.lemmas.Result.{err_from_is_err_and}
-use Rattle.text.proofs.Lines.{FirstBlank, no_word, says, unread}
+use Rattle.text.proofs.Lines.{FirstBlank, no_word, unread}
 use Rattle.text.proofs.reading.read.Goals as goal
 use Rattle.text.proofs.reading.read.Goals.{After-word_end}
 
@@ -19,8 +19,3 @@ returns-in_err-command c =
     let p = err_from_is_err_and c.from_residual-in_err-command.result c.from_residual-in_err-command.ensures.1 in
     rw (p.1, p.2)
     (unread _ _ (blank (goal.at.returns-in_err-command c).After-word_end) c.in_ok-word.word (sym c.split_at.ensures.front ∙ c.in_ok-word.ensures) _ c.split_at.ensures.back c.if-passed_over.ensures _ c.in_err-command.ensures)
-
-pub returns : goal.returns
-returns c =
-    let told = c.in_ok-command.ensures in
-    says _ _ (blank (goal.at.returns c).After-word_end) c.in_ok-word.word (sym c.split_at.ensures.front ∙ c.in_ok-word.ensures) c.in_ok-command.field-0 told.0 told.1.0 (sym c.split_at.ensures.back ∙ told.1.1) told.1.2

@@ -1,8 +1,7 @@
 -- One pan more is looked at each turn.
-use Rattle.std.proofs.Common.{refl, ap, arith}
+use Rattle.std.proofs.Common.{refl}
 use Rattle.std.proofs.Output.{has_written_to_eq}
 use Rattle.text.specs.Replies.{pans_below}
-use Rattle.text.specs.Written.{spaced}
 use Rattle.text.proofs.Opened.{pans_open, pans_shut}
 use Rattle.text.proofs.Printing.{put_none, put_as, put_then}
 use Rattle.text.proofs.replies.put_pans.Goals as goal
@@ -21,6 +20,3 @@ loop-pan-preserved g c = λ plain.
       | else-pans-pan-eq1 w ↦
           has_written_to_eq g.W.Write.write_str_gives _ _ _ _ w.f-is (put_as (c.loop-pan.invariant plain) (pans_shut c.loop-pan.pan c.args.pans w.if-pans-pan-eq1.false))
     ]
-
-pub returns : goal.returns
-returns g c = λ plain ok. put_as (c.loop-pan.invariant plain) (ap (λ k. spaced (pans_below k c.args.pans)) {x = c.loop-pan.pan} {y = 32} (omega arith))
