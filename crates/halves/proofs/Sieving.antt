@@ -3,8 +3,8 @@ use Rattle.std.proofs.Common.{◌≡◌, ℕ, ◌+◌, ◌*◌, ◌/◌, ◌^◌
 use Rattle.std.proofs.lemmas.Nat.{mul-le}
 use Rattle.std.proofs.lemmas.List.{get_or-set_same, get_or-set_other}
 use Rattle.std.proofs.lemmas.Bool.{cases_eq, and_parts, and_from, both_ways, leb-true, le-leb}
-use Rattle.halves.specs.Place.{pans_in}
-use Rattle.halves.specs.Entries.{Rises, Holds}
+use Rattle.places.specs.Place.{pans_in}
+use Rattle.growth.specs.Entries.{Rises, Holds}
 use Rattle.halves.specs.Half.{Kept, Sieved}
 use Rattle.halves.specs.declared.bounds.Bounds.{Bounds}
 

@@ -1,7 +1,7 @@
 -- What a sweep over two lists in order keeps: what is passed is settled.
 use Rattle.std.proofs.Common.{◌≡◌, ℕ, ◌+◌, ◌-◌, ◌*◌, ◌/◌, ◌^◌, ◌<◌, ◌≤◌, ◌⊎◌, List, length, get_or, inl, inr, ⊎_elim, arith}
 use Rattle.std.proofs.lemmas.Bool.{cases_lt}
-use Rattle.halves.specs.Place.{pans_in}
+use Rattle.places.specs.Place.{pans_in}
 use Rattle.halves.specs.Sweep.{Apart, Few, Meets, Pair, LeastSum}
 
 -- passed are the entries of the back half before i and those of the front half from j on

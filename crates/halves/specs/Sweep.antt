@@ -5,7 +5,7 @@
 --   Pair         an entry of each half that are right together, with the sum x, from `from` on
 --   LeastSum     the least sum from `from` on, below `to`, of an entry of each half that are right together; or `to`
 use Rattle.std.specs.Prelude.{◌≡◌, ℕ, ◌+◌, ◌<◌, ◌≤◌, List, length, slice_index, slice_index_or}
-use Rattle.halves.specs.Place.{pans_in}
+use Rattle.places.specs.Place.{pans_in}
 use Rattle.halves.specs.declared.sweep.Band.{Band}
 
 abbrev pub Meets : Band → ℕ → ℕ → Type 0

@@ -1,11 +1,11 @@
 // What is not worth keeping is sieved out of a half.
 ghost use Rattle.std.specs.Prelude.{◌≡◌, ℕ, ◌+◌, ◌*◌, ◌/◌, ◌^◌, ◌<◌, ◌≤◌, ◌&&◌, length, nat_le, slice_index};
-ghost use Rattle.halves.specs.Entries.{Rises};
+ghost use Rattle.growth.specs.Entries.{Rises};
 ghost use Rattle.halves.specs.Half.{Kept, Sieved};
-ghost use Rattle.halves.specs.Place.{pans_in};
+ghost use Rattle.places.specs.Place.{pans_in};
 
 use crate::bounds::Bounds;
-use crate::place::{pans_in, weight_in};
+use places::{pans_in, weight_in};
 
 // Whether an entry opens few enough pans and can still reach the least weight.
 fn worth(bounds: Bounds, entry: u64) -> bool

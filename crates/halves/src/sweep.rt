@@ -1,10 +1,10 @@
 // A sweep over both halves: the least sum of two entries from a bound on.
 ghost use Rattle.std.specs.Prelude.{◌≡◌, ℕ, ◌+◌, ◌^◌, ◌<◌, ◌≤◌, ◌&&◌, length, nat_le, slice_index};
-ghost use Rattle.halves.specs.Entries.{Rises};
-ghost use Rattle.halves.specs.Place.{pans_in};
+ghost use Rattle.growth.specs.Entries.{Rises};
+ghost use Rattle.places.specs.Place.{pans_in};
 ghost use Rattle.halves.specs.Sweep.{Apart, Few, LeastSum, Meets};
 
-use crate::place::pans_in;
+use places::pans_in;
 
 // Which entries are looked at, by how many pans they open: `least` to `most` in the back half, at most `rest` in the front half.
 #[derive(Clone, Copy)]

@@ -1,6 +1,6 @@
 -- What the sweeps so far have found: the least of the pairs with fewer pans in the back half.
 use Rattle.std.proofs.Common.{◌<◌}
-use Rattle.halves.specs.Place.{pans_in}
+use Rattle.places.specs.Place.{pans_in}
 use Rattle.halves.specs.Sweep.{Few, LeastSum}
 use Rattle.halves.proofs.sweep.counted.Given as goal
 
