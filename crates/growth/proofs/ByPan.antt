@@ -6,7 +6,7 @@ use Rattle.std.proofs.lemmas.Nat.{pow_below}
 use Rattle.std.proofs.lemmas.List.{drop_all, drop_more, length-drop, get_or-drop}
 use Rattle.choices.specs.Choice.{Choice}
 use Rattle.places.specs.Place.{by_ways, place}
-use Rattle.growth.specs.Entries.{Rises, Holds, Grown}
+use Rattle.growth.specs.Entries.{Rises, Sorted, Holds, Grown}
 use Rattle.growth.specs.Part.{Part}
 use Rattle.places.specs.declared.way.Way.{Way}
 use Rattle.places.proofs.Places.{length_by_ways, pow_more, place_below}
@@ -121,10 +121,13 @@ module _ (counts : List ℕ → Choice → Type 0) (b to : ℕ) (ws : List ℕ) 
       let r : 2 ^ suc (length ws - k) ≤ 2 ^ length ws = pow_mono (omega arith) in
       omega (arith, h.few)
 
-  pub from_low : (k : ℕ) (es : List ℕ) (n : ℕ) → From counts b to ws vs k es n → (p : ℕ) → p < n → get_or es p 0 < 2 ^ 62
-  from_low k es n h p l =
+  pub from_sorted : (k : ℕ) (es : List ℕ) (n : ℕ) → From counts b to ws vs k es n → Sorted es n
+  from_sorted k es n h =
       let s : 2 ^ (b + length ws) ≤ 2 ^ 24 = pow_mono few in
-      low_of b _ (drop k ws) (drop k vs) (get_or es p 0) (drop_paired k) (omega (arith, length-drop k ws)) (omega arith) (λ i. rw (get_or-drop k ws i 0) (light (k + i))) (h.only p l)
+      record {
+        rises = h.rises;
+        low = λ p l. low_of b _ (drop k ws) (drop k vs) (get_or es p 0) (drop_paired k) (omega (arith, length-drop k ws)) (omega arith) (λ i. rw (get_or-drop k ws i 0) (light (k + i))) (h.only p l);
+      }
 
   pub from_first : (k : ℕ) (es : List ℕ) (n : ℕ) → k ≤ 0 → From counts b to ws vs k es n → PartOf counts b 0 to ws vs es n
   from_first zero es n l h =

@@ -1,6 +1,6 @@
 // Entries merged with some of them raised, from the back, in place.
 ghost use Rattle.std.specs.Prelude.{◌≡◌, ℕ, ◌+◌, ◌^◌, ◌<◌, ◌≤◌, ◌⊎◌, length, slice_index};
-ghost use Rattle.growth.specs.Entries.{Merged, Rises};
+ghost use Rattle.growth.specs.Entries.{Merged, Sorted};
 
 use crate::job::Merge;
 
@@ -11,11 +11,10 @@ pub fn above(a: u64, b: u64) -> usize
     usize::from(a > b)
 }
 
-// Merges the first entries with the first few of them raised.
+// Merges the first entries with the first few of them raised. Its two indices go down as the entries say, so it is a `while`.
 pub fn merge(es: &mut [u64], job: Merge)
     requires room { job.kept + job.added ≤ length es.old }
-    requires rises { Rises es.old job.kept }
-    requires low { (p : ℕ) → p < job.kept → slice_index es.old p < 2 ^ 62 }
+    requires sorted { Sorted es.old job.kept }
     ensures merged { Merged es.old es.new job.kept job.added job.gain }
     ensures rest { (q : ℕ) → job.kept + job.added ≤ q → slice_index es.new q ≡ slice_index es.old q }
 {

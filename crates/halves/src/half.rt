@@ -23,7 +23,7 @@ pub fn half<'a>(pans: Pans, behind: usize, bounds: Bounds, es: &'a mut [u64]) ->
             gain: gain(pans.weights[k], behind + (count - 1 - k)),
         };
         let grown = grow(es, n, pan, bounds.to);
-        n = thin(es, grown, (count - k) as u64, bounds);
+        n = thin(&mut es[..grown], (count - k) as u64, bounds);
     }
     &es[..n]
 }

@@ -81,12 +81,6 @@ pub fn next(pans: Pans, halves: Halves, from: u64) -> Option<u64>
     ensures { Next halves.entry.bounds.limit pans.entry.weights.now pans.entry.ways.now from halves.entry.bounds.to result }
 {
     let to = halves.bounds.to;
-    let found = least(
-        halves.front,
-        halves.back,
-        halves.bounds.limit,
-        from,
-        to,
-    );
+    let found = least(halves.front, halves.back, halves.bounds.limit, from, to);
     (found < to).then_some(found)
 }

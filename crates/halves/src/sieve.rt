@@ -16,15 +16,15 @@ fn worth(bounds: Bounds, entry: u64) -> bool
     (opened <= bounds.limit) & (wanted <= weight_in(entry) + bounds.limit * bounds.heaviest)
 }
 
-// Moves what is kept of the first `n` entries to the front; gives how many there are.
-fn sieve(es: &mut [u64], n: usize, bounds: Bounds) -> usize
-    requires room { n ≤ length es.old }
-    requires rises { Rises es.old n }
-    ensures sieved { Sieved bounds es.old es.new n result }
+// Moves what is kept of the entries to the front; gives how many there are. It reads and writes one slice, which no method does,
+// so it goes by index.
+fn sieve(es: &mut [u64], bounds: Bounds) -> usize
+    requires { Rises es.old (length es.old) }
+    ensures sieved { Sieved bounds es.old es.new (length es.old) result }
     ensures lean { (q : ℕ) → q < result → Kept bounds (slice_index es.new q) }
 {
     let mut left = 0;
-    for i in 0..n {
+    for i in 0..es.len() {
         let entry = es[i];
         es[left] = entry;
         if worth(bounds, entry) {
@@ -48,15 +48,14 @@ fn pays(bounds: Bounds, pans: u64) -> bool
 }
 
 // Sieves a half of so many pans where that is likely to pay; gives how many entries are left.
-pub fn thin(es: &mut [u64], n: usize, pans: u64, bounds: Bounds) -> usize
-    requires room { n ≤ length es.old }
-    requires rises { Rises es.old n }
+pub fn thin(es: &mut [u64], pans: u64, bounds: Bounds) -> usize
+    requires rises { Rises es.old (length es.old) }
     requires few { pans ≤ 24 }
-    ensures { Sieved bounds es.old es.new n result }
+    ensures { Sieved bounds es.old es.new (length es.old) result }
 {
     if pays(bounds, pans) {
-        sieve(es, n, bounds)
+        sieve(es, bounds)
     } else {
-        n
+        es.len()
     }
 }

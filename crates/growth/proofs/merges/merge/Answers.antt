@@ -10,9 +10,9 @@ loop-j-init c = (merging_none _ _ _ _ c.args.job.fewer, λ q l. refl)
 pub loop-j-preserved : goal.loop-j-preserved
 loop-j-preserved c =
     let h = c.loop-j.invariant.0 in (
-      merging_turn _ _ _ _ _ _ _ h c.loop-j-test.true (omega arith) c.requires.rises _ _ c.max.ensures c.above-keeps.ensures,
+      merging_turn _ _ _ _ _ _ _ h c.loop-j-test.true (omega arith) c.requires.sorted.rises _ _ c.max.ensures c.above-keeps.ensures,
       λ q l. get_or-set_other c.loop-j.es (c.loop-j.i + c.loop-j.j - 1) q _ 0 (omega (arith, h.kept_left, h.added_left)) ∙ c.loop-j.invariant.1 q l,
     )
 
 pub returns : goal.returns
-returns c = record { merged = merging_all _ _ _ _ _ _ _ c.requires.rises c.loop-j-test.false c.loop-j.invariant.0; rest = c.loop-j.invariant.1 }
+returns c = record { merged = merging_all _ _ _ _ _ _ _ c.requires.sorted.rises c.loop-j-test.false c.loop-j.invariant.0; rest = c.loop-j.invariant.1 }

@@ -2,7 +2,7 @@
 use Rattle.std.proofs.Common.{◌+◌, ◌-◌, ◌^◌, ◌≤◌, length, refl, ◌∙◌, arith, pow_mono}
 use Rattle.std.proofs.lemmas.List.{length-set, get_or-set_same}
 use Rattle.std.proofs.lemmas.Nat.{one_shl, pow_pos}
-use Rattle.growth.proofs.ByPan.{all, from_last, from_step, from_room, from_low, from_first, part_of}
+use Rattle.growth.proofs.ByPan.{all, from_last, from_step, from_room, from_sorted, from_first, part_of}
 use Rattle.growth.proofs.parts.part.Goals as goal
 
 pub overflow_sub-es : goal.overflow_sub-es
@@ -29,8 +29,7 @@ grow-n-requires c =
     let h = c.loop-k.invariant in
     record {
       room = omega (arith, c.requires.room, simp length-set at c.loop-k.auto.es, from_room all c.args.behind c.args.to p.weights.now p.ways.now p.paired c.requires.few p.light c.loop-k.k _ _ c.loop-k-test.true (omega arith) h);
-      rises = h.rises;
-      low = from_low all c.args.behind c.args.to p.weights.now p.ways.now p.paired c.requires.few p.light c.loop-k.k _ _ h;
+      sorted = from_sorted all c.args.behind c.args.to p.weights.now p.ways.now p.paired c.requires.few p.light c.loop-k.k _ _ h;
     }
 
 pub loop-k-preserved : goal.loop-k-preserved

@@ -3,7 +3,9 @@ use Rattle.std.proofs.Common.{◌+◌, ◌-◌, ◌^◌, ◌≤◌, length, refl
 use Rattle.std.proofs.lemmas.List.{length-set, get_or-set_same}
 use Rattle.std.proofs.lemmas.Nat.{one_shl, pow_pos}
 use Rattle.halves.specs.Half.{Worth}
-use Rattle.growth.proofs.ByPan.{from_last, from_step, from_room, from_low, from_first}
+use Rattle.growth.proofs.ByPan.{from_last, from_step, from_room, from_sorted, from_first}
+use Rattle.growth.proofs.Fronts.{rises_front}
+use Rattle.halves.proofs.Sieving.{sieved_front}
 use Rattle.halves.proofs.ByPan.{worth_tail, from_sieved, half_of}
 use Rattle.halves.proofs.half.half.Goals as goal
 
@@ -31,23 +33,18 @@ grow-grown-requires c =
     let h = c.loop-k.invariant in
     record {
       room = omega (arith, c.requires.room, simp length-set at c.loop-k.auto.es, from_room (Worth c.args.bounds) c.args.behind c.args.bounds.to p.weights.now p.ways.now p.paired c.requires.few p.light c.loop-k.k _ _ c.loop-k-test.true (omega arith) h);
-      rises = h.rises;
-      low = from_low (Worth c.args.bounds) c.args.behind c.args.bounds.to p.weights.now p.ways.now p.paired c.requires.few p.light c.loop-k.k _ _ h;
+      sorted = from_sorted (Worth c.args.bounds) c.args.behind c.args.bounds.to p.weights.now p.ways.now p.paired c.requires.few p.light c.loop-k.k _ _ h;
     }
 
 pub thin-n-requires : goal.thin-n-requires
-thin-n-requires c =
-    let p = c.args.pans in
-    let r = from_room (Worth c.args.bounds) c.args.behind c.args.bounds.to p.weights.now p.ways.now p.paired c.requires.few p.light c.loop-k.k _ _ c.loop-k-test.true (omega arith) c.loop-k.invariant in
-    let g = c.grow-grown.ensures.grown in
-    record { room = omega (arith, r, g.few, c.requires.room, simp length-set at c.loop-k.auto.es, c.grow-grown.auto.es); rises = g.rises; few = omega (arith, c.requires.few) }
+thin-n-requires c = record { rises = rises_front _ _ c.grow-grown.ensures.within c.grow-grown.ensures.grown.rises; few = omega (arith, c.requires.few) }
 
 pub loop-k-preserved : goal.loop-k-preserved
 loop-k-preserved c =
     let p = c.args.pans in
     from_sieved c.args.behind c.args.bounds p.weights.now p.ways.now p.paired c.requires.few p.light (c.loop-k.k - 1) (omega arith) _ _ _ _
     (from_step (Worth c.args.bounds) c.args.behind c.args.bounds.to p.weights.now p.ways.now p.paired c.requires.few p.light (λ i us a cs. worth_tail c.args.bounds _ us a cs (c.requires.heavy i)) c.loop-k.k c.loop-k-test.true (omega arith)
-    _ c.gain.result _ _ _ _ c.gain.ensures c.loop-k.invariant c.grow-grown.ensures.grown) c.thin-n.ensures
+    _ c.gain.result _ _ _ _ c.gain.ensures c.loop-k.invariant c.grow-grown.ensures.grown) (sieved_front _ _ _ _ _ c.grow-grown.ensures.within c.thin-n.auto.es c.thin-n.ensures)
 
 pub returns : goal.returns
 returns c =

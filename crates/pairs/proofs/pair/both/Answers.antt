@@ -1,13 +1,12 @@
 -- What is left of the proof that the entries are those of both parts.
-use Rattle.std.proofs.Common.{◌≡◌, ℕ, ◌+◌, ◌-◌, ◌^◌, ◌<◌, ◌≤◌, length, set, refl, ap, ◌∙◌, arith, pow_mono}
-use Rattle.std.proofs.lemmas.List.{length-set, get_or-set_same, get_or-set_other}
+use Rattle.std.proofs.Common.{◌≡◌, ℕ, ◌+◌, ◌-◌, ◌^◌, ◌<◌, ◌≤◌, length, refl, ap, ◌∙◌, arith, pow_mono}
+use Rattle.std.proofs.lemmas.List.{length-set, get_or-set_same}
 use Rattle.std.proofs.lemmas.Nat.{one_shl, pow_pos}
-use Rattle.growth.proofs.ByPan.{all, from_last, from_step, from_room, from_low, from_first, part_of}
-use Rattle.pairs.proofs.Beside.{first_behind}
+use Rattle.growth.proofs.ByPan.{all, from_last, from_step, from_room, from_sorted, from_first, part_of}
 use Rattle.pairs.proofs.pair.both.Goals as goal
 
-pub overflow_sub-es : goal.overflow_sub-es
-overflow_sub-es c =
+pub overflow_sub-front_room : goal.overflow_sub-front_room
+overflow_sub-front_room c =
     let n = length c.args.front.weights.now in
     let m : 2 ^ n ≤ 2 ^ (n + n) = pow_mono (omega arith) in
     omega (arith, one_shl n 64 (omega (arith, c.requires.few)), one_shl (n + n) 64 (omega (arith, c.requires.few)))
@@ -17,13 +16,13 @@ loop-k-init c =
     let f = c.args.front in
     let b = c.args.back in
     let n = length f.weights.now in
-    let cut = c.args.cut in
     let shl = one_shl n 64 (omega (arith, c.requires.few)) in
     let none : 2 ^ (0 + n) ≡ 2 ^ n = ap (λ (m : ℕ). 2 ^ m) (omega arith) in
-    let some : 0 < cut = omega (arith, c.requires.cut, pow_pos n) in (
+    let some : 0 < 2 ^ n = pow_pos n in (
       from_last all n c.args.to f.weights.now f.ways.now f.paired c.requires.few f.light n _ refl
-          (get_or-set_other (set c.args.es.now 0 _) cut 0 _ 0 (omega arith) ∙ (get_or-set_same c.args.es.now 0 _ 0 (omega (arith, c.requires.room)) ∙ omega (arith, shl, one_shl (n + n) 64 (omega (arith, c.requires.few))))),
-      from_last all 0 c.args.to b.weights.now b.ways.now b.paired (omega (arith, b.few)) b.light n _ c.requires.same (first_behind (set c.args.es.now 0 _) cut _ (simp length-set (omega (arith, c.requires.room))) ∙ omega (arith, shl, none)),
+          (get_or-set_same c.args.front_room.now 0 _ 0 (omega (arith, c.requires.front_room)) ∙ omega (arith, shl, one_shl (n + n) 64 (omega (arith, c.requires.few)))),
+      from_last all 0 c.args.to b.weights.now b.ways.now b.paired (omega (arith, b.few)) b.light n _ c.requires.same
+          (get_or-set_same c.args.back_room.now 0 _ 0 (omega (arith, c.requires.back_room)) ∙ omega (arith, shl, none)),
     )
 
 pub grow_both-sizes-requires : goal.grow_both-sizes-requires
@@ -34,12 +33,10 @@ grow_both-sizes-requires c =
     let h = c.loop-k.invariant in
     let same : 2 ^ length b.weights.now ≡ 2 ^ n = ap (λ (m : ℕ). 2 ^ m) c.requires.same in
     record {
-      front_room = omega (arith, c.requires.cut, from_room all n c.args.to f.weights.now f.ways.now f.paired c.requires.few f.light c.loop-k.k _ _ c.loop-k-test.true (omega arith) h.0);
-      back_room = omega (arith, c.requires.cut, c.requires.room, simp length-set at c.loop-k.auto.es, from_room all 0 c.args.to b.weights.now b.ways.now b.paired (omega (arith, b.few)) b.light c.loop-k.k _ _ c.loop-k-test.true (omega (arith, c.requires.same)) h.1);
-      front_rises = h.0.rises;
-      back_rises = h.1.rises;
-      front_low = from_low all n c.args.to f.weights.now f.ways.now f.paired c.requires.few f.light c.loop-k.k _ _ h.0;
-      back_low = from_low all 0 c.args.to b.weights.now b.ways.now b.paired (omega (arith, b.few)) b.light c.loop-k.k _ _ h.1;
+      front_room = omega (arith, c.requires.front_room, simp length-set at c.loop-k.auto.front_room, from_room all n c.args.to f.weights.now f.ways.now f.paired c.requires.few f.light c.loop-k.k _ _ c.loop-k-test.true (omega arith) h.0);
+      back_room = omega (arith, c.requires.back_room, simp length-set at c.loop-k.auto.back_room, from_room all 0 c.args.to b.weights.now b.ways.now b.paired (omega (arith, b.few)) b.light c.loop-k.k _ _ c.loop-k-test.true (omega (arith, c.requires.same)) h.1);
+      front_sorted = from_sorted all n c.args.to f.weights.now f.ways.now f.paired c.requires.few f.light c.loop-k.k _ _ h.0;
+      back_sorted = from_sorted all 0 c.args.to b.weights.now b.ways.now b.paired (omega (arith, b.few)) b.light c.loop-k.k _ _ h.1;
     }
 
 pub loop-k-preserved : goal.loop-k-preserved

@@ -1,9 +1,8 @@
 -- What the entries are from turn to turn: the places of the choices of each part's pans from k on.
-use Rattle.std.proofs.Common.{length, drop}
 use Rattle.growth.proofs.ByPan.{From, all}
 use Rattle.pairs.proofs.pair.both.Given as goal
 
 abbrev pub invariant-loop-k : goal.invariant-loop-k
 invariant-loop-k l =
-    From all l.count l.to l.front.weights.now l.front.ways.now l.k l.es l.sizes.front
-    × From all 0 l.to l.back.weights.now l.back.ways.now l.k (drop l.cut l.es) l.sizes.back
+    From all l.count l.to l.front.weights.now l.front.ways.now l.k l.front_room l.sizes.front
+    × From all 0 l.to l.back.weights.now l.back.ways.now l.k l.back_room l.sizes.back
