@@ -10,21 +10,19 @@ use places::pans_in;
 fn sweep(lists: Lists, band: Band, from: u64, to: u64) -> u64
     ensures { LeastSum (Meets band) lists.entry.front.now lists.entry.back.now from to result }
 {
-    let mut i = 0;
-    let mut j = lists.front.len();
+    let mut front = lists.front;
+    let mut back = lists.back;
     let mut found = to;
-    while i < lists.back.len() && j > 0 {
-        let a = lists.back[i];
-        let b = lists.front[j - 1];
+    while let (Some((&a, above)), Some((&b, below))) = (back.split_first(), front.split_last()) {
         if pans_in(a) != band.count {
-            i += 1;
+            back = above;
         } else if pans_in(b) > band.rest {
-            j -= 1;
+            front = below;
         } else if a + b < from {
-            i += 1;
+            back = above;
         } else {
             found = found.min(a + b);
-            j -= 1;
+            front = below;
         }
     }
     found
@@ -62,8 +60,7 @@ pub fn fewest(tops: &[u64], lists: Lists, limit: u64, from: u64, to: u64) -> u64
     ensures { LeastOf (Together limit) (length tops.now) tops.now lists.entry.front.now lists.entry.back.now from to result }
 {
     let mut found = to;
-    for t in 0..tops.len() {
-        let top = tops[t];
+    for &top in tops {
         let more = beside(
             top,
             lists,

@@ -110,8 +110,15 @@ fn finish(lane: Lane, lists: Lists) -> u64
     run.found
 }
 
-// The least sum for each of the tops, of which there are one to four.
-pub fn four(tops: &[u64], lists: Lists, from: u64, to: u64) -> [u64; 4]
+// The least sum for a top alone.
+fn alone(top: u64, lists: Lists, from: u64, to: u64) -> u64
+    ensures { LeastSum Any lists.entry.front.now lists.entry.back.now (from - top) (to - top) result }
+{
+    finish(fresh(top, lists.front.len(), from, to), lists)
+}
+
+// The least sum for each of the tops, of which there are one to four, by four sweeps side by side.
+fn four(tops: &[u64], lists: Lists, from: u64, to: u64) -> [u64; 4]
     requires some { 0 < length tops.now }
     requires few { length tops.now ≤ 4 }
     ensures { (t : ℕ) → t < length tops.now → LeastSum Any lists.entry.front.now lists.entry.back.now (from - slice_index tops.now t) (to - slice_index tops.now t) (slice_index result t) }
@@ -131,4 +138,16 @@ pub fn four(tops: &[u64], lists: Lists, from: u64, to: u64) -> [u64; 4]
         finish(run.c, lists),
         finish(run.d, lists),
     ]
+}
+
+// The least sum for each of the tops, of which there are at most four. One alone has no others run beside it.
+pub fn each(tops: &[u64], lists: Lists, from: u64, to: u64) -> [u64; 4]
+    requires { length tops.now ≤ 4 }
+    ensures { (t : ℕ) → t < length tops.now → LeastSum Any lists.entry.front.now lists.entry.back.now (from - slice_index tops.now t) (to - slice_index tops.now t) (slice_index result t) }
+{
+    match tops {
+        [] => [to; 4],
+        [top] => [alone(*top, lists, from, to); 4],
+        _ => four(tops, lists, from, to),
+    }
 }

@@ -3,7 +3,7 @@ ghost use Rattle.std.specs.Prelude.{ℕ, ◌^◌, ◌<◌, ◌≤◌, length, sl
 ghost use Rattle.sweeps.specs.Sweep.{Apart, LeastOf, Together, Whatever};
 
 use crate::counted::fewest;
-use crate::four::four;
+use crate::four::each;
 use crate::lists::Lists;
 use places::pans_in;
 
@@ -12,13 +12,10 @@ fn first(tops: &[u64], lists: Lists, from: u64, to: u64) -> u64
     requires { length tops.now ≤ 4 }
     ensures { LeastOf Whatever (length tops.now) tops.now lists.entry.front.now lists.entry.back.now from to result }
 {
-    if tops.len() == 0 {
-        return to;
-    }
-    let found = four(tops, lists, from, to);
+    let found = each(tops, lists, from, to);
     let mut least = to;
-    for t in 0..tops.len() {
-        least = least.min(found[t] + tops[t]);
+    for (top, more) in tops.iter().zip(&found) {
+        least = least.min(more + top);
     }
     least
 }
