@@ -4,15 +4,16 @@ ghost use Rattle.growth.specs.Entries.{Rises};
 ghost use Rattle.sieves.specs.Sieve.{Sieved, Thinned};
 
 use crate::bounds::Bounds;
+use crate::span::Span;
 use crate::worth::worth;
 use growth::above;
-use places::{Pans, pans_in};
+use places::pans_in;
 
 // Moves what is kept of the first `n` entries to the front, with no branch on what is compared; gives how many there are.
-fn sieve(es: &mut [u64], n: usize, short: &[u64]) -> usize
+// It reads and writes one slice, at two places that move apart.
+fn sieve(es: &mut [u64], n: usize, short: &[u64; 32]) -> usize
     requires room { n ≤ length es.old }
     requires rises { Rises es.old n }
-    requires long { length short.now ≡ 32 }
     ensures { Sieved short.now es.old es.new n result }
 {
     let mut left = 0;
@@ -24,15 +25,14 @@ fn sieve(es: &mut [u64], n: usize, short: &[u64]) -> usize
     left
 }
 
-// Sieves the entries of so many pans behind the first `skip`, where the count can bind at all; gives how many are left.
-pub fn thin(pans: Pans, skip: usize, len: usize, bounds: Bounds, es: &mut [u64], n: usize) -> usize
-    requires within { skip + len ≤ length pans.weights.now }
+// Sieves the entries of a span of the pans, where the count can bind at all; gives how many are left.
+pub fn thin(span: Span, bounds: Bounds, es: &mut [u64], n: usize) -> usize
     requires room { n ≤ length es.old }
     requires rises { Rises es.old n }
-    ensures { Thinned bounds pans.entry.weights.now skip len es.old es.new n result }
+    ensures { Thinned bounds span.entry.pans.weights.now span.entry.skip span.entry.len es.old es.new n result }
 {
-    if bounds.limit < pans.weights.len() as u64 {
-        sieve(es, n, &worth(pans, skip, len, bounds))
+    if bounds.limit < span.pans.weights.len() as u64 {
+        sieve(es, n, &worth(span, bounds))
     } else {
         n
     }

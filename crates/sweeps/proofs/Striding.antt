@@ -1,18 +1,19 @@
 -- What a sweep over two lists in order keeps from step to step: what is passed is settled.
 use Rattle.std.proofs.Common.{◌≡◌, ℕ, ◌+◌, ◌-◌, ◌<◌, ◌≤◌, min, ◌⊎◌, List, length, get_or, sym, refl, ◌∙◌, inl, inr, ⊎_elim, arith}
 use Rattle.std.proofs.lemmas.Bool.{cases_lt, cases_eq}
-use Rattle.sweeps.specs.Sweep.{Any, LeastSum, Lists, Pair}
+use Rattle.growth.specs.Entries.{Rises}
+use Rattle.sweeps.specs.Sweep.{Any, LeastSum, Pair}
 use Rattle.sweeps.specs.Lane.{Fresh, Strides, Strode, Swept}
 use Rattle.sweeps.specs.declared.lane.Lane.{Lane}
 use Rattle.sweeps.specs.declared.lanes.Lanes.{Lanes}
 
 -- one step, by what the sum of the two entries is
-module _ (fs bs : List ℕ) (lists : Lists fs bs) (x : Lane) (h : Swept fs bs x) (behind : x.at < length bs) (front : 0 < x.left) (sum : ℕ) (is : sum ≡ get_or bs x.at 0 + get_or fs (x.left - 1) 0) where
+module _ (fs bs : List ℕ) (front_rises : Rises fs (length fs)) (back_rises : Rises bs (length bs)) (x : Lane) (h : Swept fs bs x) (behind : x.at < length bs) (front : 0 < x.left) (sum : ℕ) (is : sum ≡ get_or bs x.at 0 + get_or fs (x.left - 1) 0) where
   light : (p q : ℕ) → q ≡ x.at → p < x.left → get_or fs p 0 + get_or bs q 0 ≤ sum
-  light p q e l = rw e (omega (arith, lists.front_rises p (x.left - 1) (omega arith) (omega (arith, h.front))))
+  light p q e l = rw e (omega (arith, front_rises p (x.left - 1) (omega arith) (omega (arith, h.front))))
 
   heavy : (p q : ℕ) → p ≡ x.left - 1 → x.at ≤ q → q < length bs → sum ≤ get_or fs p 0 + get_or bs q 0
-  heavy p q e a l = rw e (omega (arith, lists.back_rises x.at q a l))
+  heavy p q e a l = rw e (omega (arith, back_rises x.at q a l))
 
   pub strode_short : sum < x.from → Strode fs bs x (record { from = x.from; to = x.to; at = x.at + 1; left = x.left; found = x.found }) 1
   strode_short few =

@@ -1,10 +1,11 @@
 // Four sweeps side by side: up the back list and down the front list.
 ghost use Rattle.std.specs.Prelude.{◌≡◌, ℕ, ◌+◌, ◌-◌, ◌<◌, ◌≤◌, ◌⊎◌, length, slice_index};
 ghost use Rattle.sweeps.specs.Lane.{Fresh, Strides, Strode, Swept};
-ghost use Rattle.sweeps.specs.Sweep.{Any, LeastSum, Lists};
+ghost use Rattle.sweeps.specs.Sweep.{Any, LeastSum};
 
 use crate::lane::Lane;
 use crate::lanes::Lanes;
+use crate::lists::Lists;
 use growth::above;
 
 // A sweep that has not begun, for what comes below `to` from `from` on together with the top.
@@ -23,14 +24,13 @@ fn fresh(top: u64, front: usize, from: u64, to: u64) -> Lane
 
 // Looks at one sum more: where it is too little, so are those of the same entry behind with what is left in front; where it
 // is enough, those of the same entry in front with what is left behind are no less.
-fn step(lane: Lane, front: &[u64], back: &[u64]) -> Lane
-    requires lists { Lists front.now back.now }
-    requires swept { Swept front.now back.now lane }
-    requires behind { lane.at < length back.now }
+fn step(lane: Lane, lists: Lists) -> Lane
+    requires swept { Swept lists.front.now lists.back.now lane }
+    requires behind { lane.at < length lists.back.now }
     requires front { 0 < lane.left }
-    ensures { Strode front.now back.now lane result 1 }
+    ensures { Strode lists.entry.front.now lists.entry.back.now lane result 1 }
 {
-    let sum = back[lane.at] + front[lane.left - 1];
+    let sum = lists.back[lane.at] + lists.front[lane.left - 1];
     let short = above(lane.from, sum);
     let found = if sum < lane.from {
         lane.found
@@ -56,20 +56,19 @@ fn free(lane: Lane, back: usize) -> usize
 }
 
 // So many steps of all four.
-fn stride(lanes: Lanes, front: &[u64], back: &[u64], steps: usize) -> Lanes
-    requires lists { Lists front.now back.now }
-    requires swept { Strides front.now back.now lanes lanes 0 }
-    requires behind { (lanes.a.at + steps ≤ length back.now) × (lanes.b.at + steps ≤ length back.now) × (lanes.c.at + steps ≤ length back.now) × (lanes.d.at + steps ≤ length back.now) }
+fn stride(lanes: Lanes, lists: Lists, steps: usize) -> Lanes
+    requires swept { Strides lists.front.now lists.back.now lanes lanes 0 }
+    requires behind { (lanes.a.at + steps ≤ length lists.back.now) × (lanes.b.at + steps ≤ length lists.back.now) × (lanes.c.at + steps ≤ length lists.back.now) × (lanes.d.at + steps ≤ length lists.back.now) }
     requires front { (steps ≤ lanes.a.left) × (steps ≤ lanes.b.left) × (steps ≤ lanes.c.left) × (steps ≤ lanes.d.left) }
-    ensures { Strides front.now back.now lanes result steps }
+    ensures { Strides lists.entry.front.now lists.entry.back.now lanes result steps }
 {
     let mut run = lanes;
     for _done in 0..steps {
         run = Lanes {
-            a: step(run.a, front, back),
-            b: step(run.b, front, back),
-            c: step(run.c, front, back),
-            d: step(run.d, front, back),
+            a: step(run.a, lists),
+            b: step(run.b, lists),
+            c: step(run.c, lists),
+            d: step(run.d, lists),
         };
     }
     run
@@ -86,53 +85,69 @@ fn all_free(lanes: Lanes, back: usize) -> usize
 }
 
 // Steps of all four, as far as none of them ends.
-fn side_by_side(lanes: Lanes, front: &[u64], back: &[u64]) -> Lanes
-    requires lists { Lists front.now back.now }
-    requires swept { Strides front.now back.now lanes lanes 0 }
-    ensures { (k : ℕ) × Strides front.now back.now lanes result k }
+fn side_by_side(lanes: Lanes, lists: Lists) -> Lanes
+    requires { Strides lists.front.now lists.back.now lanes lanes 0 }
+    ensures { (k : ℕ) × Strides lists.entry.front.now lists.entry.back.now lanes result k }
 {
     let mut run = lanes;
-    let mut steps = all_free(run, back.len());
+    let mut steps = all_free(run, lists.back.len());
     while steps > 0 {
-        run = stride(run, front, back, steps);
-        steps = all_free(run, back.len());
+        run = stride(run, lists, steps);
+        steps = all_free(run, lists.back.len());
     }
     run
 }
 
 // Goes on with one sweep to its end.
-fn finish(lane: Lane, front: &[u64], back: &[u64]) -> u64
-    requires lists { Lists front.now back.now }
-    requires swept { Swept front.now back.now lane }
-    ensures { LeastSum Any front.now back.now lane.from lane.to result }
+fn finish(lane: Lane, lists: Lists) -> u64
+    requires { Swept lists.front.now lists.back.now lane }
+    ensures { LeastSum Any lists.entry.front.now lists.entry.back.now lane.from lane.to result }
 {
     let mut run = lane;
-    while run.at < back.len() && run.left > 0 {
-        run = step(run, front, back);
+    while run.at < lists.back.len() && run.left > 0 {
+        run = step(run, lists);
     }
     run.found
 }
 
-// The least sum for each of the tops, of which there are one to four.
-pub fn four(tops: &[u64], front: &[u64], back: &[u64], from: u64, to: u64) -> [u64; 4]
-    requires lists { Lists front.now back.now }
+// The least sum for a top alone.
+fn alone(top: u64, lists: Lists, from: u64, to: u64) -> u64
+    ensures { LeastSum Any lists.entry.front.now lists.entry.back.now (from - top) (to - top) result }
+{
+    finish(fresh(top, lists.front.len(), from, to), lists)
+}
+
+// The least sum for each of the tops, of which there are one to four, by four sweeps side by side.
+fn four(tops: &[u64], lists: Lists, from: u64, to: u64) -> [u64; 4]
     requires some { 0 < length tops.now }
     requires few { length tops.now ≤ 4 }
-    ensures { (t : ℕ) → t < length tops.now → LeastSum Any front.now back.now (from - slice_index tops.now t) (to - slice_index tops.now t) (slice_index result t) }
+    ensures { (t : ℕ) → t < length tops.now → LeastSum Any lists.entry.front.now lists.entry.back.now (from - slice_index tops.now t) (to - slice_index tops.now t) (slice_index result t) }
 {
     let last = tops.len() - 1;
-    let many = front.len();
+    let many = lists.front.len();
     let lanes = Lanes {
         a: fresh(tops[0], many, from, to),
         b: fresh(tops[last.min(1)], many, from, to),
         c: fresh(tops[last.min(2)], many, from, to),
         d: fresh(tops[last.min(3)], many, from, to),
     };
-    let run = side_by_side(lanes, front, back);
+    let run = side_by_side(lanes, lists);
     [
-        finish(run.a, front, back),
-        finish(run.b, front, back),
-        finish(run.c, front, back),
-        finish(run.d, front, back),
+        finish(run.a, lists),
+        finish(run.b, lists),
+        finish(run.c, lists),
+        finish(run.d, lists),
     ]
+}
+
+// The least sum for each of the tops, of which there are at most four. One alone has no others run beside it.
+pub fn each(tops: &[u64], lists: Lists, from: u64, to: u64) -> [u64; 4]
+    requires { length tops.now ≤ 4 }
+    ensures { (t : ℕ) → t < length tops.now → LeastSum Any lists.entry.front.now lists.entry.back.now (from - slice_index tops.now t) (to - slice_index tops.now t) (slice_index result t) }
+{
+    match tops {
+        [] => [to; 4],
+        [top] => [alone(*top, lists, from, to); 4],
+        _ => four(tops, lists, from, to),
+    }
 }

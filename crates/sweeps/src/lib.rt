@@ -6,6 +6,8 @@ mod counted;
 mod four;
 mod lane;
 mod lanes;
+mod lists;
 mod tops;
 
+pub use lists::Lists;
 pub use tops::least;

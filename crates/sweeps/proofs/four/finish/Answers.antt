@@ -4,10 +4,10 @@ use Rattle.sweeps.proofs.Striding.{strode_none, strode_more, strode_all}
 use Rattle.sweeps.proofs.four.finish.Goals as goal
 
 pub loop-run-init : goal.loop-run-init
-loop-run-init c = (0, strode_none _ _ _ c.requires.swept)
+loop-run-init c = (0, strode_none _ _ _ c.requires)
 
 pub step-run-requires : goal.step-run-requires
-step-run-requires c = record { lists = c.requires.lists; swept = c.loop-run.invariant.1.swept; behind = c.loop-run-test.true; front = c.if-run-gt0.true }
+step-run-requires c = record { swept = c.loop-run.invariant.1.swept; behind = c.loop-run-test.true; front = c.if-run-gt0.true }
 
 pub loop-run-preserved : goal.loop-run-preserved
 loop-run-preserved c = let h = c.loop-run.invariant in (h.0 + 1, strode_more _ _ _ _ _ _ _ h.1 c.step-run.ensures)

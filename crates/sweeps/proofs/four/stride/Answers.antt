@@ -6,22 +6,22 @@ use Rattle.sweeps.proofs.four.stride.Goals as goal
 pub step-requires : goal.step-requires
 step-requires c =
     let h = c.loop-done.invariant.a in
-    record { lists = c.requires.lists; swept = h.swept; behind = omega (arith, h.steps, h.down, c.requires.behind.0); front = omega (arith, h.steps, h.up, c.requires.front.0) }
+    record { swept = h.swept; behind = omega (arith, h.steps, h.down, c.requires.behind.0); front = omega (arith, h.steps, h.up, c.requires.front.0) }
 
 pub step-requires-in-loop-done : goal.step-requires-in-loop-done
 step-requires-in-loop-done c =
     let h = c.loop-done.invariant.b in
-    record { lists = c.requires.lists; swept = h.swept; behind = omega (arith, h.steps, h.down, c.requires.behind.1); front = omega (arith, h.steps, h.up, c.requires.front.1) }
+    record { swept = h.swept; behind = omega (arith, h.steps, h.down, c.requires.behind.1); front = omega (arith, h.steps, h.up, c.requires.front.1) }
 
 pub step-requires-in-loop-done-2 : goal.step-requires-in-loop-done-2
 step-requires-in-loop-done-2 c =
     let h = c.loop-done.invariant.c in
-    record { lists = c.requires.lists; swept = h.swept; behind = omega (arith, h.steps, h.down, c.requires.behind.2); front = omega (arith, h.steps, h.up, c.requires.front.2) }
+    record { swept = h.swept; behind = omega (arith, h.steps, h.down, c.requires.behind.2); front = omega (arith, h.steps, h.up, c.requires.front.2) }
 
 pub step-requires-in-loop-done-3 : goal.step-requires-in-loop-done-3
 step-requires-in-loop-done-3 c =
     let h = c.loop-done.invariant.d in
-    record { lists = c.requires.lists; swept = h.swept; behind = omega (arith, h.steps, h.down, c.requires.behind.3); front = omega (arith, h.steps, h.up, c.requires.front.3) }
+    record { swept = h.swept; behind = omega (arith, h.steps, h.down, c.requires.behind.3); front = omega (arith, h.steps, h.up, c.requires.front.3) }
 
 pub loop-done-preserved : goal.loop-done-preserved
 loop-done-preserved c =
