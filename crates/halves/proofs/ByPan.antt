@@ -1,5 +1,5 @@
 -- A half grows by one pan and is sieved, from the last pan to the first.
-use Rattle.std.proofs.Common.{◌≡◌, ℕ, ◌+◌, ◌-◌, ◌*◌, ◌^◌, ◌<◌, ◌≤◌, Bool, true, false, List, ◌∷◌, length, get_or, take, drop, sym, ap, ◌∙◌, add-mul, arith, pow_mono}
+use Rattle.std.proofs.Common.{◌≡◌, ℕ, ◌+◌, ◌-◌, ◌^◌, ◌<◌, ◌≤◌, Bool, true, false, List, ◌∷◌, length, get_or, take, drop, sym, ap, ◌∙◌, add-mul, arith, pow_mono}
 use Rattle.std.proofs.lemmas.List.{length-drop, length-take-le, get_or-take}
 use Rattle.choices.specs.Choice.{Choice, opened}
 use Rattle.places.specs.Place.{by_ways, place}

@@ -8,7 +8,7 @@ use Rattle.places.specs.Place.{by_ways, place, pans_in}
 use Rattle.growth.specs.Entries.{Holds}
 use Rattle.halves.specs.Half.{Half, Worth}
 use Rattle.halves.specs.declared.bounds.Bounds.{Bounds}
-use Rattle.halves.specs.Sweep.{Apart, Few, Pair, LeastSum}
+use Rattle.sweeps.specs.Sweep.{ApartPairs, Few, Pair, LeastSum}
 use Rattle.halves.specs.Next.{Allowed, First}
 use Rattle.places.specs.declared.way.Way.{Way}
 use Rattle.places.proofs.Places.{length_by_ways, in_place, place_says, weight_le}
@@ -66,7 +66,7 @@ module _ (us ws : List ℕ) (ups vs : List Way) (lim : Bounds) (fs bs : List ℕ
       let k : 2 ^ (0 + length ws) ≤ 2 ^ 24 = pow_mono {j = 24} (omega arith) in
       (in_place 0 0 ws ds (length_by_ways vs ds h ∙ back_paired) (omega arith) (omega arith)).1
 
-  pub counts_apart : Apart fs bs
+  pub counts_apart : ApartPairs fs bs
   counts_apart p q a b =
       let f : (cs : Choice) × (by_ways ups cs ≡ true) × (place (length ws) us cs + 0 ≡ get_or fs p 0) = front.only p a in
       let g : (ds : Choice) × (by_ways vs ds ≡ true) × (place 0 ws ds + 0 ≡ get_or bs q 0) = back.only q b in

@@ -4,4 +4,3 @@ mod ByPan
 mod Joining
 mod Rooms
 mod Sieving
-mod Sweeping

@@ -1,4 +1,3 @@
 -- The definitions that contracts cite.
 pub mod Half
-pub mod Sweep
 pub mod Next

@@ -15,8 +15,8 @@ room_for n = 2 ^ (n / 2) + 2 ^ (n - n / 2)
 
 pub record Filled (ws : List ℕ) (vs : List Way) (s : Halves) : Type 0 where
   pub heavy : (i : ℕ) → slice_index ws i ≤ s.bounds.heaviest
-  pub front : Half (length ws - length ws / 2) 0 s.bounds (take (length ws / 2) ws) (take (length ws / 2) vs) s.front.now (length s.front.now)
-  pub back : Half 0 0 s.bounds (drop (length ws / 2) ws) (drop (length ws / 2) vs) s.back.now (length s.back.now)
+  pub front : Half (length ws - length ws / 2) 0 s.bounds (take (length ws / 2) ws) (take (length ws / 2) vs) s.lists.front.now (length s.lists.front.now)
+  pub back : Half 0 0 s.bounds (drop (length ws / 2) ws) (drop (length ws / 2) vs) s.lists.back.now (length s.lists.back.now)
 
 pub record Allowed (limit : ℕ) (ws : List ℕ) (vs : List Way) (from : ℕ) (cs : Choice) : Type 0 where
   pub ways : by_ways vs cs ≡ true

@@ -1,10 +1,10 @@
 // Two halves that fill a room.
 use crate::bounds::Bounds;
+use sweeps::Lists;
 
 // The entries of the front half and of the back half; none is left out that the bounds allow.
 #[derive(Clone, Copy)]
 pub struct Halves<'a> {
-    pub front: &'a [u64],
-    pub back: &'a [u64],
+    pub lists: Lists<'a>,
     pub bounds: Bounds,
 }

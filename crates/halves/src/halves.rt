@@ -5,8 +5,8 @@ ghost use Rattle.halves.specs.Next.{Filled, Next, room_for};
 use crate::bounds::Bounds;
 use crate::filled::Halves;
 use crate::half::half;
-use crate::sweep::least;
 use places::Pans;
+use sweeps::{Lists, least};
 
 // Room for 24 pans, which is the most that a ring has.
 pub const ROOM: usize = 8192;
@@ -67,11 +67,8 @@ pub fn fill<'a>(pans: Pans, limit: u32, least: u32, to: u64, room: &'a mut [u64]
     let (front_room, back_room) = room.split_at_mut(cut(count));
     let front = half(first, last.weights.len(), bounds, front_room);
     let back = half(last, 0, bounds, back_room);
-    Halves {
-        front,
-        back,
-        bounds,
-    }
+    let lists = Lists { front, back };
+    Halves { lists, bounds }
 }
 
 // The first place from `from` on of a choice that is allowed; the halves hold none that weighs less than their least.
@@ -81,6 +78,6 @@ pub fn next(pans: Pans, halves: Halves, from: u64) -> Option<u64>
     ensures { Next halves.entry.bounds.limit pans.entry.weights.now pans.entry.ways.now from halves.entry.bounds.to result }
 {
     let to = halves.bounds.to;
-    let found = least(halves.front, halves.back, halves.bounds.limit, from, to);
+    let found = least(&[0], halves.lists, halves.bounds.limit, from, to);
     (found < to).then_some(found)
 }

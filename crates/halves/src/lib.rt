@@ -7,7 +7,6 @@ mod filled;
 mod half;
 mod halves;
 mod sieve;
-mod sweep;
 
 pub use answer::best;
 pub use bounds::Bounds;
