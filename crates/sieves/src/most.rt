@@ -2,12 +2,13 @@
 ghost use Rattle.std.specs.Prelude.{◌≡◌, ℕ, ◌+◌, ◌*◌, ◌^◌, ◌<◌, ◌≤◌, max, List, ◌++◌, length, slice_index};
 ghost use Rattle.sieves.specs.Sieve.{Most};
 
-// One pan more may be among them: it is, or it is not. From the most pans down, since each reads the one before it as it was.
+// One pan more may be among them: it is, or it is not.
 fn with_pan(most: &mut [u64; 25], weight: u32)
     requires { (r : ℕ) → slice_index most.old r < 2 ^ 62 }
     ensures none { slice_index most.new 0 ≡ slice_index most.old 0 }
     ensures more { (r : ℕ) → r < 24 → slice_index most.new (r + 1) ≡ max (slice_index most.old (r + 1)) (slice_index most.old r + weight) }
 {
+    // By index, from the most pans down: each is worked out beside the one before it, which is still as it was.
     for r in (0..24).rev() {
         most[r + 1] = most[r + 1].max(most[r] + u64::from(weight));
     }

@@ -9,15 +9,14 @@ use crate::worth::worth;
 use growth::above;
 use places::pans_in;
 
-// Moves what is kept of the first `n` entries to the front, with no branch on what is compared; gives how many there are.
-// It reads and writes one slice, at two places that move apart.
-fn sieve(es: &mut [u64], n: usize, short: &[u64; 32]) -> usize
-    requires room { n ≤ length es.old }
-    requires rises { Rises es.old n }
-    ensures { Sieved short.now es.old es.new n result }
+// Moves what is kept to the front, with no branch on what is compared; gives how many there are.
+fn sieve(es: &mut [u64], short: &[u64; 32]) -> usize
+    requires { Rises es.old (length es.old) }
+    ensures { Sieved short.now es.old es.new (length es.old) result }
 {
     let mut left = 0;
-    for i in 0..n {
+    // By index, since it reads and writes one slice at two places that move apart.
+    for i in 0..es.len() {
         let entry = es[i];
         es[left] = entry;
         left += 1 - above(short[pans_in(entry) as usize], entry);
@@ -26,14 +25,13 @@ fn sieve(es: &mut [u64], n: usize, short: &[u64; 32]) -> usize
 }
 
 // Sieves the entries of a span of the pans, where the count can bind at all; gives how many are left.
-pub fn thin(span: Span, bounds: Bounds, es: &mut [u64], n: usize) -> usize
-    requires room { n ≤ length es.old }
-    requires rises { Rises es.old n }
-    ensures { Thinned bounds span.entry.pans.weights.now span.entry.skip span.entry.len es.old es.new n result }
+pub fn thin(span: Span, bounds: Bounds, es: &mut [u64]) -> usize
+    requires { Rises es.old (length es.old) }
+    ensures { Thinned bounds span.entry.pans.weights.now span.entry.skip span.entry.len es.old es.new (length es.old) result }
 {
     if bounds.limit < span.pans.weights.len() as u64 {
-        sieve(es, n, &worth(span, bounds))
+        sieve(es, &worth(span, bounds))
     } else {
-        n
+        es.len()
     }
 }

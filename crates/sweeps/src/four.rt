@@ -1,12 +1,13 @@
 // Four sweeps side by side: up the back list and down the front list.
 ghost use Rattle.std.specs.Prelude.{◌≡◌, ℕ, ◌+◌, ◌-◌, ◌<◌, ◌≤◌, ◌⊎◌, length, slice_index};
-ghost use Rattle.sweeps.specs.Lane.{Fresh, Strides, Strode, Swept};
+ghost use Rattle.std.specs.List.{All};
+ghost use Rattle.sweeps.specs.Lane.{Free, Fresh, Strides, Strode, Swept};
 ghost use Rattle.sweeps.specs.Sweep.{Any, LeastSum};
 
 use crate::lane::Lane;
-use crate::lanes::Lanes;
 use crate::lists::Lists;
 use growth::above;
+use std::array;
 
 // A sweep that has not begun, for what comes below `to` from `from` on together with the top.
 fn fresh(top: u64, front: usize, from: u64, to: u64) -> Lane
@@ -56,44 +57,41 @@ fn free(lane: Lane, back: usize) -> usize
 }
 
 // So many steps of all four.
-fn stride(lanes: Lanes, lists: Lists, steps: usize) -> Lanes
-    requires swept { Strides lists.front.now lists.back.now lanes lanes 0 }
-    requires behind { (lanes.a.at + steps ≤ length lists.back.now) × (lanes.b.at + steps ≤ length lists.back.now) × (lanes.c.at + steps ≤ length lists.back.now) × (lanes.d.at + steps ≤ length lists.back.now) }
-    requires front { (steps ≤ lanes.a.left) × (steps ≤ lanes.b.left) × (steps ≤ lanes.c.left) × (steps ≤ lanes.d.left) }
+fn stride(lanes: [Lane; 4], lists: Lists, steps: usize) -> [Lane; 4]
+    requires { All (Free lists.front.now lists.back.now steps) lanes }
     ensures { Strides lists.entry.front.now lists.entry.back.now lanes result steps }
 {
     let mut run = lanes;
     for _done in 0..steps {
-        run = Lanes {
-            a: step(run.a, lists),
-            b: step(run.b, lists),
-            c: step(run.c, lists),
-            d: step(run.d, lists),
-        };
+        for lane in &mut run {
+            *lane = step(*lane, lists);
+        }
     }
     run
 }
 
 // How many steps are left for certain to all four.
-fn all_free(lanes: Lanes, back: usize) -> usize
-    requires { (lanes.a.at ≤ back) × (lanes.b.at ≤ back) × (lanes.c.at ≤ back) × (lanes.d.at ≤ back) }
-    ensures behind { (lanes.a.at + result ≤ back) × (lanes.b.at + result ≤ back) × (lanes.c.at + result ≤ back) × (lanes.d.at + result ≤ back) }
-    ensures front { (result ≤ lanes.a.left) × (result ≤ lanes.b.left) × (result ≤ lanes.c.left) × (result ≤ lanes.d.left) }
+fn all_free(lanes: &[Lane; 4], back: usize) -> usize
+    requires { All (λ x. x.at ≤ back) lanes.now }
+    ensures { All (λ x. (x.at + result ≤ back) × (result ≤ x.left)) lanes.now }
 {
-    let two = free(lanes.a, back).min(free(lanes.b, back));
-    two.min(free(lanes.c, back)).min(free(lanes.d, back))
+    let mut steps = back;
+    for lane in lanes {
+        steps = steps.min(free(*lane, back));
+    }
+    steps
 }
 
 // Steps of all four, as far as none of them ends.
-fn side_by_side(lanes: Lanes, lists: Lists) -> Lanes
-    requires { Strides lists.front.now lists.back.now lanes lanes 0 }
+fn side_by_side(lanes: [Lane; 4], lists: Lists) -> [Lane; 4]
+    requires { All (Swept lists.front.now lists.back.now) lanes }
     ensures { (k : ℕ) × Strides lists.entry.front.now lists.entry.back.now lanes result k }
 {
     let mut run = lanes;
-    let mut steps = all_free(run, lists.back.len());
+    let mut steps = all_free(&run, lists.back.len());
     while steps > 0 {
         run = stride(run, lists, steps);
-        steps = all_free(run, lists.back.len());
+        steps = all_free(&run, lists.back.len());
     }
     run
 }
@@ -124,20 +122,9 @@ fn four(tops: &[u64], lists: Lists, from: u64, to: u64) -> [u64; 4]
     ensures { (t : ℕ) → t < length tops.now → LeastSum Any lists.entry.front.now lists.entry.back.now (from - slice_index tops.now t) (to - slice_index tops.now t) (slice_index result t) }
 {
     let last = tops.len() - 1;
-    let many = lists.front.len();
-    let lanes = Lanes {
-        a: fresh(tops[0], many, from, to),
-        b: fresh(tops[last.min(1)], many, from, to),
-        c: fresh(tops[last.min(2)], many, from, to),
-        d: fresh(tops[last.min(3)], many, from, to),
-    };
+    let lanes = array::from_fn(|t| fresh(tops[t.min(last)], lists.front.len(), from, to));
     let run = side_by_side(lanes, lists);
-    [
-        finish(run.a, lists),
-        finish(run.b, lists),
-        finish(run.c, lists),
-        finish(run.d, lists),
-    ]
+    array::from_fn(|t| finish(run[t], lists))
 }
 
 // The least sum for each of the tops, of which there are at most four. One alone has no others run beside it.

@@ -5,7 +5,6 @@ mod band;
 mod counted;
 mod four;
 mod lane;
-mod lanes;
 mod lists;
 mod tops;
 
