@@ -1,5 +1,5 @@
 -- What is left of the proof of the four.
-use Rattle.std.proofs.Common.{◌≡◌, ℕ, ◌-◌, ◌<◌, length, get_or, refl, min, rules, arith}
+use Rattle.std.proofs.Common.{◌≡◌, ℕ, ◌-◌, ◌<◌, length, get_or, min, rules, arith}
 use Rattle.sweeps.specs.Sweep.{Any, LeastSum}
 use Rattle.sweeps.specs.Lane.{Fresh}
 use Rattle.sweeps.specs.declared.lane.Lane.{Lane}
@@ -19,6 +19,6 @@ returns c =
     let began = made_each _ _ P c.from_fn-lanes.result (λ x r q called. search rules) 4 0 c.from_fn-lanes.ensures.items.each in
     let ended = made_each _ _ Q c.from_fn.result (λ x r q called. search rules) 4 0 c.from_fn.ensures.items.each in
     λ t l.
-        let m : t < 4 = omega (arith, c.requires.few) in
-        let k : min t (length ts - 1) ≡ t = omega arith in
-        least_fresh fs bs (get_or ts t 0) (length fs) c.args.from c.args.to _ _ _ _ (rw k at (began t e (omega arith) m)) (c.side_by_side-run.ensures.1.each t e m) (ended t 0 (omega arith) m)
+    let m : t < 4 = omega (arith, c.requires.few) in
+    let k : min t (length ts - 1) ≡ t = omega arith in
+    least_fresh fs bs (get_or ts t 0) (length fs) c.args.from c.args.to _ _ _ _ (rw k at (began t e (omega arith) m)) (c.side_by_side-run.ensures.1.each t e m) (ended t 0 (omega arith) m)
