@@ -64,14 +64,14 @@ module _ (fs bs : List ℕ) (front_rises : Rises fs (length fs)) (back_rises : R
   -- as the step is worked out: k is what the index behind moves by
   pub strode_one :
       (k f : ℕ) → ((k ≡ 1) × (sum < x.from)) ⊎ ((k ≡ 0) × (x.from ≤ sum)) → (sum < x.from → f ≡ x.found) → (x.from ≤ sum → f ≡ min x.found sum) →
-      Strode fs bs x (record { from = x.from; to = x.to; at = x.at + k; left = x.left - (1 - k); found = f }) 1
+      Strode fs bs x (record { from = x.from; to = x.to; at = x.at + k; left = x.left - 1 + k; found = f }) 1
   strode_one k f (inl (one, l)) short enough =
       let e : f ≡ x.found = short l in
-      let d : x.left - (1 - k) ≡ x.left = omega arith in
+      let d : x.left - 1 + k ≡ x.left = omega arith in
       rw (d, one, e) (strode_short l)
   strode_one k f (inr (none, l)) short enough =
       let a : x.at + k ≡ x.at = omega arith in
-      let d : x.left - (1 - k) ≡ x.left - 1 = omega arith in
+      let d : x.left - 1 + k ≡ x.left - 1 = omega arith in
       rw (a, d) (strode_enough f l (enough l))
 
 pub strode_none : (fs bs : List ℕ) (x : Lane) → Swept fs bs x → Strode fs bs x x 0

@@ -42,7 +42,7 @@ fn step(lane: Lane, lists: Lists) -> Lane
         from: lane.from,
         to: lane.to,
         at: lane.at + short,
-        left: lane.left - (1 - short),
+        left: lane.left - 1 + short,
         found,
     }
 }
