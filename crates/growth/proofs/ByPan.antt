@@ -93,10 +93,10 @@ module _ (counts : List ℕ → Choice → Type 0) (b to : ℕ) (ws : List ℕ) 
 
   pub from_step :
       ((i : ℕ) (us : List ℕ) (c : Bool) (cs : Choice) → counts (get_or ws i 0 ∷ us) (c ∷ cs) → counts us cs) →
-      (k : ℕ) → 0 < k → k ≤ length ws → (d : Way) (gain : ℕ) (old es : List ℕ) (n n' : ℕ) →
+      (k : ℕ) → 0 < k → k ≤ length ws → (v : Way) (gain : ℕ) (old es : List ℕ) (n n' : ℕ) → ((d : Way) → v ≡ get_or vs (k - 1) d) →
       gain + 2 ^ (b + (length ws - 1 - (k - 1))) ≡ get_or ws (k - 1) 0 * 2 ^ 29 + 2 ^ 24 →
-      From counts b to ws vs k old n → Grown to (get_or vs (k - 1) d) gain old es n n' → From counts b to ws vs (k - 1) es n'
-  from_step tail k some within d gain old es n n' gained h g =
+      From counts b to ws vs k old n → Grown to v gain old es n n' → From counts b to ws vs (k - 1) es n'
+  from_step tail k some within v gain old es n n' by-way gained h g =
       let i : k - 1 + 1 ≡ k = omega arith in
       let l : length (drop k ws) ≡ length ws - k = length-drop k ws in
       let p : 2 ^ (b + length (drop k ws)) ≡ 2 ^ (b + (length ws - k)) = ap (λ (m : ℕ). 2 ^ (b + m)) l in
@@ -105,10 +105,10 @@ module _ (counts : List ℕ → Choice → Type 0) (b to : ℕ) (ws : List ℕ) 
       let s : 2 ^ (b + (length ws - (k - 1))) ≤ 2 ^ (b + length ws) = pow_mono (omega arith) in
       let t : 2 ^ (b + length ws) ≤ 2 ^ 24 = pow_mono few in
       let u : 2 ^ (b + suc (length (drop k ws))) ≡ 2 * 2 ^ (b + length (drop k ws)) = pow_more b (length (drop k ws)) in
-      let v : drop (k - 1) ws ≡ get_or ws (k - 1) 0 ∷ drop k ws = rw i at (drop_more ws (k - 1) 0 (omega arith)) in
-      let w : drop (k - 1) vs ≡ get_or vs (k - 1) d ∷ drop k vs = rw i at (drop_more vs (k - 1) d (omega arith)) in
-      rw (v, w)
-      (more_of counts b _ (2 ^ (b + length ws) - 2 ^ (b + (length ws - (k - 1)))) to (get_or ws (k - 1) 0) (drop k ws) (get_or vs (k - 1) d) (drop k vs) old es n n' gain
+      let x : drop (k - 1) ws ≡ get_or ws (k - 1) 0 ∷ drop k ws = rw i at (drop_more ws (k - 1) 0 (omega arith)) in
+      let y : drop (k - 1) vs ≡ v ∷ drop k vs = rw (i, sym (by-way v)) at (drop_more vs (k - 1) v (omega arith)) in
+      rw (x, y)
+      (more_of counts b _ (2 ^ (b + length ws) - 2 ^ (b + (length ws - (k - 1)))) to (get_or ws (k - 1) 0) (drop k ws) v (drop k vs) old es n n' gain
       (tail (k - 1) (drop k ws)) h g (length-drop k vs ∙ (omega arith)) (omega arith) (omega arith) (omega arith))
 
   pub drop_paired : (k : ℕ) → length (drop k vs) ≡ length (drop k ws)

@@ -11,7 +11,8 @@ pub fn above(a: u64, b: u64) -> usize
     usize::from(a > b)
 }
 
-// Merges the first entries with the first few of them raised. Its two indices go down as the entries say, so it is a `while`.
+// Merges the first entries with the first few of them raised. Its two indices go down as the entries say, so it is a `while`; it
+// branches on them, since for one merge alone a branch that is foreseen takes less time than one that is saved.
 pub fn merge(es: &mut [u64], job: Merge)
     requires room { job.kept + job.added ≤ length es.old }
     requires sorted { Sorted es.old job.kept }
@@ -24,8 +25,10 @@ pub fn merge(es: &mut [u64], job: Merge)
         let kept = es[i - 1];
         let added = es[j - 1] + job.gain;
         es[i + j - 1] = kept.max(added);
-        let keeps = above(kept, added);
-        i -= keeps;
-        j -= 1 - keeps;
+        if kept > added {
+            i -= 1;
+        } else {
+            j -= 1;
+        }
     }
 }

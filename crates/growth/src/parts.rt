@@ -25,10 +25,7 @@ pub fn part(pans: Pans, behind: usize, to: u64, es: &mut [u64]) -> usize
     es[0] = (1 << (behind + count)) - (1 << behind);
     let mut n = 1;
     for k in (0..count).rev() {
-        let pan = Pan {
-            way: pans.ways[k],
-            gain: gain(pans.weights[k], behind + (count - 1 - k)),
-        };
+        let pan = Pan::of(pans, k, behind + (count - 1 - k));
         n = grow(es, n, pan, to);
     }
     n

@@ -4,7 +4,7 @@ ghost use Rattle.halves.specs.Half.{Half};
 
 use crate::bounds::Bounds;
 use crate::sieve::thin;
-use growth::{Pan, gain, grow};
+use growth::{Pan, grow};
 use places::Pans;
 
 // Fills the room from the last pan to the first, with so many pans behind the half; gives the entries.
@@ -18,10 +18,7 @@ pub fn half<'a>(pans: Pans, behind: usize, bounds: Bounds, es: &'a mut [u64]) ->
     es[0] = (1 << (behind + count)) - (1 << behind);
     let mut n = 1;
     for k in (0..count).rev() {
-        let pan = Pan {
-            way: pans.ways[k],
-            gain: gain(pans.weights[k], behind + (count - 1 - k)),
-        };
+        let pan = Pan::of(pans, k, behind + (count - 1 - k));
         let grown = grow(es, n, pan, bounds.to);
         n = thin(&mut es[..grown], (count - k) as u64, bounds);
     }

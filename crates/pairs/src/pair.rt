@@ -4,7 +4,7 @@ ghost use Rattle.growth.specs.Entries.{Grown, Merged, Sorted};
 ghost use Rattle.growth.specs.Part.{Part};
 
 use crate::sizes::Sizes;
-use growth::{Merge, Pan, above, gain, grow, merge, openable};
+use growth::{Merge, Pan, above, grow, merge, openable};
 use places::Pans;
 
 // Merges the entries of both parts, turn by turn as `merge` does, so it is a `while` too.
@@ -118,14 +118,8 @@ pub fn both(
     let mut sizes = Sizes { front: 1, back: 1 };
     for k in (0..count).rev() {
         let after = count - 1 - k;
-        let first = Pan {
-            way: front.ways[k],
-            gain: gain(front.weights[k], count + after),
-        };
-        let second = Pan {
-            way: back.ways[k],
-            gain: gain(back.weights[k], after),
-        };
+        let first = Pan::of(front, k, count + after);
+        let second = Pan::of(back, k, after);
         sizes = grow_both(front_room, first, back_room, second, sizes, to);
     }
     sizes

@@ -12,9 +12,6 @@ overflow_sub-es c =
     let m : 2 ^ b ≤ 2 ^ (b + n) = pow_mono (omega arith) in
     omega (arith, one_shl b 64 (omega (arith, c.requires.few)), one_shl (b + n) 64 (omega (arith, c.requires.few)))
 
-pub gain-requires : goal.gain-requires
-gain-requires c = record { light = c.args.pans.light (c.loop-k.k - 1); few = omega (arith, c.requires.few) }
-
 pub loop-k-init : goal.loop-k-init
 loop-k-init c =
     let p = c.args.pans in
@@ -36,7 +33,7 @@ pub loop-k-preserved : goal.loop-k-preserved
 loop-k-preserved c =
     let p = c.args.pans in
     from_step all c.args.behind c.args.to p.weights.now p.ways.now p.paired c.requires.few p.light (λ i us a cs o. o) c.loop-k.k c.loop-k-test.true (omega arith)
-    _ c.gain.result _ _ _ _ c.gain.ensures c.loop-k.invariant c.grow-n.ensures.grown
+    _ _ _ _ _ _ c.of-pan.ensures.way c.of-pan.ensures.gain c.loop-k.invariant c.grow-n.ensures.grown
 
 pub returns : goal.returns
 returns c =

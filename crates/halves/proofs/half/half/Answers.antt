@@ -16,9 +16,6 @@ overflow_sub-es c =
     let m : 2 ^ b ≤ 2 ^ (b + n) = pow_mono (omega arith) in
     omega (arith, one_shl b 64 (omega (arith, c.requires.few)), one_shl (b + n) 64 (omega (arith, c.requires.few)))
 
-pub gain-requires : goal.gain-requires
-gain-requires c = record { light = c.args.pans.light (c.loop-k.k - 1); few = omega (arith, c.requires.few) }
-
 pub loop-k-init : goal.loop-k-init
 loop-k-init c =
     let p = c.args.pans in
@@ -44,7 +41,7 @@ loop-k-preserved c =
     let p = c.args.pans in
     from_sieved c.args.behind c.args.bounds p.weights.now p.ways.now p.paired c.requires.few p.light (c.loop-k.k - 1) (omega arith) _ _ _ _
     (from_step (Worth c.args.bounds) c.args.behind c.args.bounds.to p.weights.now p.ways.now p.paired c.requires.few p.light (λ i us a cs. worth_tail c.args.bounds _ us a cs (c.requires.heavy i)) c.loop-k.k c.loop-k-test.true (omega arith)
-    _ c.gain.result _ _ _ _ c.gain.ensures c.loop-k.invariant c.grow-grown.ensures.grown) (sieved_front _ _ _ _ _ c.grow-grown.ensures.within c.thin-n.auto.es c.thin-n.ensures)
+    _ _ _ _ _ _ c.of-pan.ensures.way c.of-pan.ensures.gain c.loop-k.invariant c.grow-grown.ensures.grown) (sieved_front _ _ _ _ _ c.grow-grown.ensures.within c.thin-n.auto.es c.thin-n.ensures)
 
 pub returns : goal.returns
 returns c =

@@ -47,8 +47,8 @@ loop-k-preserved c =
     let h = c.loop-k.invariant in
     let k = c.loop-k.k in
     let e : 2 ^ (0 + (length b.weights.now - 1 - (k - 1))) ≡ 2 ^ (n - 1 - (k - 1)) = ap (λ (m : ℕ). 2 ^ m) (omega (arith, c.requires.same)) in (
-      from_step all n c.args.to f.weights.now f.ways.now f.paired c.requires.few f.light (λ i us a cs o. o) k c.loop-k-test.true (omega arith) _ c.gain.result _ _ _ _ c.gain.ensures h.0 c.grow_both-sizes.ensures.front,
-      from_step all 0 c.args.to b.weights.now b.ways.now b.paired (omega (arith, b.few)) b.light (λ i us a cs o. o) k c.loop-k-test.true (omega (arith, c.requires.same)) _ c.gain-in-loop-k.result _ _ _ _ (omega (arith, e, c.gain-in-loop-k.ensures)) h.1 c.grow_both-sizes.ensures.back,
+      from_step all n c.args.to f.weights.now f.ways.now f.paired c.requires.few f.light (λ i us a cs o. o) k c.loop-k-test.true (omega arith) _ _ _ _ _ _ c.of-first.ensures.way c.of-first.ensures.gain h.0 c.grow_both-sizes.ensures.front,
+      from_step all 0 c.args.to b.weights.now b.ways.now b.paired (omega (arith, b.few)) b.light (λ i us a cs o. o) k c.loop-k-test.true (omega (arith, c.requires.same)) _ _ _ _ _ _ c.of-second.ensures.way (omega (arith, e, c.of-second.ensures.gain)) h.1 c.grow_both-sizes.ensures.back,
     )
 
 pub returns : goal.returns
