@@ -21,16 +21,7 @@ fn short(most: &[u64; 25], bounds: Bounds, opened: usize) -> u64
     }
 }
 
-// The same by how many pans an entry opens.
-fn shorts(most: &[u64; 25], bounds: Bounds) -> [u64; 32]
-    requires { bounds.limit ≤ 24 }
-    ensures within { (c : ℕ) → c ≤ bounds.limit → slice_index result c ≡ (bounds.least - slice_index most.now (bounds.limit - c)) * 2 ^ 29 }
-    ensures beyond { (c : ℕ) → bounds.limit < c → c < 32 → slice_index result c ≡ 2 ^ 64 - 1 }
-{
-    array::from_fn(|opened| short(most, bounds, opened))
-}
-
-// The same for a span of the pans, by what the others weigh.
+// The same by how many pans an entry of a span of them opens, where the others may be opened beside it.
 pub fn worth(span: Span, bounds: Bounds) -> [u64; 32]
     requires { bounds.limit ≤ 24 }
     ensures { Short bounds span.entry.pans.weights.now span.entry.skip span.entry.len result }
@@ -39,5 +30,5 @@ pub fn worth(span: Span, bounds: Bounds) -> [u64; 32]
     let mut most = [0; 25];
     with_pans(&mut most, &weights[span.skip + span.len..]);
     with_pans(&mut most, &weights[..span.skip]);
-    shorts(&most, bounds)
+    array::from_fn(|opened| short(&most, bounds, opened))
 }

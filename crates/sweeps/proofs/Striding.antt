@@ -1,11 +1,10 @@
 -- What a sweep over two lists in order keeps from step to step: what is passed is settled.
-use Rattle.std.proofs.Common.{◌≡◌, ℕ, ◌+◌, ◌-◌, ◌<◌, ◌≤◌, min, ◌⊎◌, List, length, get_or, set, sym, refl, ◌∙◌, inl, inr, ⊎_elim, arith}
-use Rattle.std.specs.List.{All}
+use Rattle.std.proofs.Common.{◌≡◌, ℕ, ◌+◌, ◌-◌, ◌<◌, ◌≤◌, min, ◌⊎◌, List, length, get_or, set, refl, ◌∙◌, inl, inr, ⊎_elim, arith}
 use Rattle.std.proofs.lemmas.List.{get_or_default, get_or-set_same, get_or-set_other, length-set}
 use Rattle.std.proofs.lemmas.Bool.{cases_lt, cases_eq}
 use Rattle.growth.specs.Entries.{Rises}
-use Rattle.sweeps.specs.Sweep.{Any, LeastSum, Pair}
-use Rattle.sweeps.specs.Lane.{Free, Fresh, Strides, Strode, Swept}
+use Rattle.sweeps.specs.Sweep.{Any, Pair}
+use Rattle.sweeps.specs.Lane.{Strides, Strode, Swept}
 use Rattle.sweeps.specs.declared.lane.Lane.{Lane}
 
 -- one step, by what the sum of the two entries is
@@ -74,9 +73,6 @@ module _ (fs bs : List ℕ) (front_rises : Rises fs (length fs)) (back_rises : R
       let d : x.left - 1 + k ≡ x.left - 1 = omega arith in
       rw (a, d) (strode_enough f l (enough l))
 
-pub strode_none : (fs bs : List ℕ) (x : Lane) → Swept fs bs x → Strode fs bs x x 0
-strode_none fs bs x h = record { from = refl; to = refl; up = omega arith; down = omega arith; steps = omega arith; swept = h }
-
 pub strode_more : (fs bs : List ℕ) (x y z : Lane) (k m : ℕ) → Strode fs bs x y k → Strode fs bs y z m → Strode fs bs x z (k + m)
 strode_more fs bs x y z k m h g =
     record {
@@ -88,61 +84,19 @@ strode_more fs bs x y z k m h g =
       swept = g.swept;
     }
 
--- a sweep that has not begun
-pub swept_fresh : (fs bs : List ℕ) (top front from to : ℕ) (x : Lane) → front ≡ length fs → Fresh top front from to x → Swept fs bs x
-swept_fresh fs bs top front from to x e is =
-    rw is
-    (record {
-      behind = omega arith;
-      front = omega arith;
-      high = omega arith;
-      passed = λ p q a b o l. ⊎_elim (λ k. absurd (omega arith)) (λ k. absurd (omega arith)) o;
-      found = λ l. absurd (omega arith);
-    })
-
--- all is settled where one of the two lists is used up
-pub swept_all : (fs bs : List ℕ) (x : Lane) → Swept fs bs x → (length bs ≤ x.at) ⊎ (x.left ≤ 0) → LeastSum Any fs bs x.from x.to x.found
-swept_all fs bs x h end =
-    record {
-      high = h.high;
-      least = λ p q a b o l. h.passed p q a b (⊎_elim (λ k. inl (omega arith)) (λ k. inr (omega arith)) end) l;
-      found = h.found;
-    }
-
-pub strode_all : (fs bs : List ℕ) (x y : Lane) (k : ℕ) → Strode fs bs x y k → (length bs ≤ y.at) ⊎ (y.left ≤ 0) → LeastSum Any fs bs x.from x.to y.found
-strode_all fs bs x y k h end = rw (sym h.from, sym h.to) (swept_all fs bs y h.swept end)
-
 -- the same of four
-pub strides_none : (fs bs : List ℕ) (xs : List Lane) → length xs ≡ 4 → All (Swept fs bs) xs → Strides fs bs xs xs 0
-strides_none fs bs xs long h = record { long = long; each = λ i d l. strode_none _ _ _ (h i d (omega arith)) }
-
 pub strides_more : (fs bs : List ℕ) (xs ys zs : List Lane) (k m : ℕ) → Strides fs bs xs ys k → Strides fs bs ys zs m → Strides fs bs xs zs (k + m)
 strides_more fs bs xs ys zs k m h g = record { long = g.long; each = λ i d l. strode_more _ _ _ _ _ _ _ (h.each i d l) (g.each i d l) }
-
-pub strides_free : (fs bs : List ℕ) (xs ys : List Lane) (k n : ℕ) → Strides fs bs xs ys k → All (λ x. (x.at + n ≤ length bs) × (n ≤ x.left)) ys → All (Free fs bs n) ys
-strides_free fs bs xs ys k n h free i d l = record { swept = (h.each i d (omega (arith, h.long))).swept; behind = (free i d l).0; front = (free i d l).1 }
 
 -- how much is left at most to the first of them, which a step makes less
 abbrev pub ahead : List ℕ → List Lane → ℕ
 ahead bs xs = let x : Lane = get_or xs 0 (record { from = 0; to = 0; at = 0; left = 0; found = 0 }) in (length bs - x.at) + x.left
-
-pub ahead_less : (fs bs : List ℕ) (xs ys : List Lane) (k : ℕ) → 0 < k → Strides fs bs xs ys k → ahead bs ys < ahead bs xs
-ahead_less fs bs xs ys k some h = let g = h.each 0 (record { from = 0; to = 0; at = 0; left = 0; found = 0 }) (omega arith) in omega (arith, g.steps, g.up, g.down, g.swept.behind)
 
 -- in a turn the first n have taken one step more
 pub record Turning (fs bs : List ℕ) (xs ys : List Lane) (k n : ℕ) : Type 0 where
   pub long : length ys ≡ 4
   pub turned : (i : ℕ) (d : Lane) → i < n → i < 4 → Strode fs bs (get_or xs i d) (get_or ys i d) (k + 1)
   pub others : (i : ℕ) (d : Lane) → n ≤ i → i < 4 → Strode fs bs (get_or xs i d) (get_or ys i d) k
-
-pub turning_none : (fs bs : List ℕ) (xs ys : List Lane) (k : ℕ) → Strides fs bs xs ys k → Turning fs bs xs ys k 0
-turning_none fs bs xs ys k h = record { long = h.long; turned = λ i d a l. absurd (omega arith); others = λ i d a l. h.each i d l }
-
-pub turning_free : (fs bs : List ℕ) (xs ys : List Lane) (steps k n : ℕ) (d : Lane) → All (Free fs bs steps) xs → length xs ≡ 4 → Turning fs bs xs ys k n → n < 4 → k < steps → Free fs bs 1 (get_or ys n d)
-turning_free fs bs xs ys steps k n d free long h few more =
-    let g = h.others n d (omega arith) few in
-    let f = free n d (omega arith) in
-    record { swept = g.swept; behind = omega (arith, g.steps, g.down, f.behind); front = omega (arith, g.steps, g.up, f.front) }
 
 pub turning_more : (fs bs : List ℕ) (xs ys : List Lane) (k n : ℕ) (e y : Lane) → n < 4 → Turning fs bs xs ys k n → Strode fs bs (get_or ys n e) y 1 → Turning fs bs xs (set ys n y) k (n + 1)
 turning_more fs bs xs ys k n e y few h step =
@@ -154,6 +108,3 @@ turning_more fs bs xs ys k n e y few h step =
   where
     here : (d : Lane) → Strode fs bs (get_or xs n d) (get_or (set ys n y) n d) (k + 1)
     here d = rw (get_or-set_same ys n y d (omega (arith, h.long))) (strode_more _ _ _ _ _ _ _ (h.others n d (omega arith) few) (rw (get_or_default ys n e d (omega (arith, h.long))) at step))
-
-pub turning_all : (fs bs : List ℕ) (xs ys : List Lane) (k n : ℕ) → 4 ≤ n → Turning fs bs xs ys k n → Strides fs bs xs ys (k + 1)
-turning_all fs bs xs ys k n all h = record { long = h.long; each = λ i d l. h.turned i d (omega arith) l }

@@ -1,8 +1,9 @@
 -- What is left of the proof of which entries are worth keeping.
-use Rattle.std.proofs.Common.{◌≡◌, ℕ, ◌+◌, ◌-◌, ◌≤◌, List, [], length, get_or, take, drop, replicate, ⊎_elim, arith}
+use Rattle.std.proofs.Common.{◌≡◌, ℕ, ◌+◌, ◌-◌, ◌*◌, ◌^◌, ◌≤◌, List, [], length, get_or, take, drop, replicate, ⊎_elim, arith, rules}
 use Rattle.std.proofs.lemmas.List.{append-nil, length-drop, length-take, take_all, get_or-replicate, get_or_past}
 use Rattle.std.proofs.lemmas.Bool.{cases_lt}
 use Rattle.sieves.specs.Sieve.{Most}
+use Rattle.sieves.proofs.Made.{made_each}
 use Rattle.sieves.proofs.Parts.{light_take, light_drop, short_from}
 use Rattle.sieves.proofs.Weighing.{most_none}
 use Rattle.sieves.proofs.worth.worth.Goals as goal
@@ -36,5 +37,9 @@ returns c =
     let ws = c.args.span.pans.weights.now in
     let skip = c.args.span.skip in
     let n = skip + c.args.span.len in
+    let most = c.with_pans-2.new.most in
+    let limit = c.args.bounds.limit in
+    let P : ℕ → ℕ → Type 0 = λ x r. x ≤ limit → r ≡ (c.args.bounds.least - get_or most (limit - x) 0) * 2 ^ 29 in
+    let made = made_each c.from_fn.ensures.items P (λ x r q called. search rules) in
     let behind : Most (drop n ws) c.with_pans.new.most = rw (rest n ws, append-nil (drop n ws)) at (c.with_pans.ensures.most [] (most_none (replicate 25 0))) in
-    short_from c.args.bounds ws skip c.args.span.len c.with_pans-2.new.most c.shorts.result c.args.span.within c.requires (c.with_pans-2.ensures.most (drop n ws) behind) c.shorts.ensures.within
+    short_from c.args.bounds ws skip c.args.span.len most c.from_fn.result c.args.span.within c.requires (c.with_pans-2.ensures.most (drop n ws) behind) (λ x l. made x 0 (omega (arith, c.requires)) l)
