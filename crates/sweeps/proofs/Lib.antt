@@ -1,5 +1,4 @@
 -- The lemmas that several proofs share, here and in the crates above.
 pub mod Alone
-mod Made
 mod Striding
 mod Sweeping

@@ -3,7 +3,7 @@ use Rattle.std.proofs.Common.{◌≡◌, ℕ, ◌+◌, ◌-◌, ◌*◌, ◌^◌
 use Rattle.std.proofs.lemmas.List.{append-nil, length-drop, length-take, take_all, get_or-replicate, get_or_past}
 use Rattle.std.proofs.lemmas.Bool.{cases_lt}
 use Rattle.sieves.specs.Sieve.{Most}
-use Rattle.sieves.proofs.Made.{made_each}
+use Rattle.places.proofs.Made.{made_each}
 use Rattle.sieves.proofs.Parts.{light_take, light_drop, short_from}
 use Rattle.sieves.proofs.Weighing.{most_none}
 use Rattle.sieves.proofs.worth.worth.Goals as goal

@@ -3,7 +3,7 @@ use Rattle.std.proofs.Common.{◌≡◌, ℕ, ◌-◌, ◌<◌, length, get_or, 
 use Rattle.sweeps.specs.Sweep.{Any, LeastSum}
 use Rattle.sweeps.specs.Lane.{Fresh}
 use Rattle.sweeps.specs.declared.lane.Lane.{Lane}
-use Rattle.sweeps.proofs.Made.{made_each}
+use Rattle.places.proofs.Made.{made_each}
 use Rattle.sweeps.proofs.Sweeping.{least_fresh}
 use Rattle.sweeps.proofs.four.four.Goals as goal
 
