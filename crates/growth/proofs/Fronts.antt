@@ -1,13 +1,13 @@
 -- The first entries of a slice, taken by themselves.
 use Rattle.std.proofs.Common.{◌≡◌, ℕ, ◌+◌, ◌-◌, ◌<◌, ◌≤◌, List, ◌++◌, length, get_or, take, drop, ap, ◌∙◌, arith}
-use Rattle.std.proofs.lemmas.List.{get_or-take, get_or-drop, get_or_append_left, get_or-append_right, length-take-le}
+use Rattle.std.proofs.lemmas.List.{get_or-take, get_or-drop, get_or_append_left, get_or-append_right, length-take, length-take-le}
 use Rattle.growth.specs.Entries.{Rises, Opening}
 use Rattle.places.specs.declared.way.Way.{Way}
 
-pub rises_front : (es : List ℕ) (n : ℕ) → n ≤ length es → Rises es n → Rises (take n es) (length (take n es))
-rises_front es n room h p q a l =
-    let k : q < n = omega (arith, length-take-le n es room) in
-    omega (arith, get_or-take n es p 0 (omega arith), get_or-take n es q 0 k, h p q a k)
+pub rises_front : (es : List ℕ) (n : ℕ) → Rises es n → Rises (take n es) (length (take n es))
+rises_front es n h p q a b =
+    let l : q < n = omega (arith, length-take n es) in
+    rw (get_or-take n es p 0 (omega arith), get_or-take n es q 0 l) (h p q a l)
 
 pub opening_front : (to : ℕ) (v : Way) (gain : ℕ) (es : List ℕ) (n m : ℕ) → n ≤ length es → Opening to v gain (take n es) (length (take n es)) m → Opening to v gain es n m
 opening_front to v gain es n m room h =

@@ -1,14 +1,9 @@
 -- The entries of a part may be the first ones of a longer list, whose others a sieve of these alone leaves as they are.
 use Rattle.std.proofs.Common.{◌≡◌, ℕ, ◌-◌, ◌<◌, ◌≤◌, List, ◌++◌, length, get_or, take, drop, sym, ap, ◌∙◌, arith}
 use Rattle.std.proofs.lemmas.List.{length-take, get_or-take, get_or-drop, get_or_append_left, get_or-append_right}
-use Rattle.growth.specs.Entries.{Rises, Holds}
+use Rattle.growth.specs.Entries.{Holds}
 use Rattle.sieves.specs.Sieve.{Thinned}
 use Rattle.sieves.specs.declared.bounds.Bounds.{Bounds}
-
-pub rises_front : (old : List ℕ) (n : ℕ) → Rises old n → Rises (take n old) (length (take n old))
-rises_front old n h p q a b =
-    let l : q < n = omega (arith, length-take n old) in
-    rw (get_or-take n old p 0 (omega arith), get_or-take n old q 0 l) (h p q a l)
 
 pub thinned_front :
     (lim : Bounds) (ws : List ℕ) (skip len : ℕ) (old es : List ℕ) (n r : ℕ) → n ≤ length old → length es ≡ length (take n old) →

@@ -6,7 +6,7 @@ use Rattle.growth.proofs.Fronts.{rises_front, opening_front, raised_front, rest_
 use Rattle.growth.proofs.more.grow.Goals as goal
 
 pub openable-added-requires : goal.openable-added-requires
-openable-added-requires c = rises_front _ _ (omega arith) c.requires.sorted.rises
+openable-added-requires c = rises_front _ _ c.requires.sorted.rises
 
 pub returns-then-pan : goal.returns-then-pan
 returns-then-pan c =

@@ -34,7 +34,7 @@ grow-grown-requires c =
     }
 
 pub thin-n-requires : goal.thin-n-requires
-thin-n-requires c = record { rises = rises_front _ _ c.grow-grown.ensures.within c.grow-grown.ensures.grown.rises; few = omega (arith, c.requires.few) }
+thin-n-requires c = record { rises = rises_front _ _ c.grow-grown.ensures.grown.rises; few = omega (arith, c.requires.few) }
 
 pub loop-k-preserved : goal.loop-k-preserved
 loop-k-preserved c =

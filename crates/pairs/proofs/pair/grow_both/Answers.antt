@@ -5,10 +5,10 @@ use Rattle.growth.proofs.Fronts.{rises_front, opening_front}
 use Rattle.pairs.proofs.pair.grow_both.Goals as goal
 
 pub openable-added-requires : goal.openable-added-requires
-openable-added-requires c = rises_front _ _ (omega arith) c.requires.front_sorted.rises
+openable-added-requires c = rises_front _ _ c.requires.front_sorted.rises
 
 pub openable-raised-requires : goal.openable-raised-requires
-openable-raised-requires c = rises_front _ _ (omega arith) c.requires.back_sorted.rises
+openable-raised-requires c = rises_front _ _ c.requires.back_sorted.rises
 
 pub returns-then-second : goal.returns-then-second
 returns-then-second c =
