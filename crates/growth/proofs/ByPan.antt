@@ -8,6 +8,7 @@ use Rattle.choices.specs.Choice.{Choice}
 use Rattle.places.specs.Place.{by_ways, place}
 use Rattle.growth.specs.Entries.{Rises, Sorted, Holds, Grown}
 use Rattle.growth.specs.Part.{Part}
+use Rattle.places.specs.declared.pans.Pans.{Pans}
 use Rattle.places.specs.declared.way.Way.{Way}
 use Rattle.places.proofs.Places.{length_by_ways, pow_more, place_below}
 
@@ -81,25 +82,29 @@ pub low_of :
 low_of b r ws vs x paired few low light (cs, h, e) = omega (arith, e, place_below b ws cs light few (length_by_ways vs cs h ∙ paired))
 
 -- the pans from k on, with what the pans before them add while they stay shut
-abbrev pub From : (List ℕ → Choice → Type 0) → ℕ → ℕ → List ℕ → List Way → ℕ → List ℕ → ℕ → Type 0
-From counts b to ws vs k es n = PartOf counts b (2 ^ (b + length ws) - 2 ^ (b + (length ws - k))) to (drop k ws) (drop k vs) es n
+abbrev pub From : (List ℕ → Choice → Type 0) → ℕ → ℕ → Pans → ℕ → List ℕ → ℕ → Type 0
+From counts b to p k es n = PartOf counts b (2 ^ (b + length p.weights.now) - 2 ^ (b + (length p.weights.now - k))) to (drop k p.weights.now) (drop k p.ways.now) es n
 
-module _ (counts : List ℕ → Choice → Type 0) (b to : ℕ) (ws : List ℕ) (vs : List Way) (paired : length vs ≡ length ws) (few : b + length ws ≤ 24) (light : (i : ℕ) → get_or ws i 0 ≤ 1000000) where
-  pub from_last : (n : ℕ) (es : List ℕ) → length ws ≡ n → get_or es 0 0 ≡ 2 ^ (b + n) - 2 ^ b → From counts b to ws vs n es 1
+module _ (counts : List ℕ → Choice → Type 0) (b to : ℕ) (p : Pans) (few : b + length p.weights.now ≤ 24) where
+  pub from_last : (n : ℕ) (es : List ℕ) → length p.weights.now ≡ n → get_or es 0 0 ≡ 2 ^ (b + n) - 2 ^ b → From counts b to p n es 1
   from_last n es whole e =
+      let ws = p.weights.now in
+      let vs = p.ways.now in
       let d : b + (length ws - length ws) ≡ b = omega arith in
       let k : length vs ≤ length ws = omega arith in
       rw (sym whole) (rw (drop_all (length ws) ws (omega arith), drop_all (length ws) vs k, d) (none_of counts b _ to es (rw (sym whole) at e)))
 
   pub from_step :
-      ((i : ℕ) (us : List ℕ) (c : Bool) (cs : Choice) → counts (get_or ws i 0 ∷ us) (c ∷ cs) → counts us cs) →
-      (k : ℕ) → 0 < k → k ≤ length ws → (v : Way) (gain : ℕ) (old es : List ℕ) (n n' : ℕ) → ((d : Way) → v ≡ get_or vs (k - 1) d) →
-      gain + 2 ^ (b + (length ws - 1 - (k - 1))) ≡ get_or ws (k - 1) 0 * 2 ^ 29 + 2 ^ 24 →
-      From counts b to ws vs k old n → Grown to v gain old es n n' → From counts b to ws vs (k - 1) es n'
+      ((i : ℕ) (us : List ℕ) (c : Bool) (cs : Choice) → counts (get_or p.weights.now i 0 ∷ us) (c ∷ cs) → counts us cs) →
+      (k : ℕ) → 0 < k → k ≤ length p.weights.now → (v : Way) (gain : ℕ) (old es : List ℕ) (n n' : ℕ) → ((d : Way) → v ≡ get_or p.ways.now (k - 1) d) →
+      gain + 2 ^ (b + (length p.weights.now - 1 - (k - 1))) ≡ get_or p.weights.now (k - 1) 0 * 2 ^ 29 + 2 ^ 24 →
+      From counts b to p k old n → Grown to v gain old es n n' → From counts b to p (k - 1) es n'
   from_step tail k some within v gain old es n n' by-way gained h g =
+      let ws = p.weights.now in
+      let vs = p.ways.now in
       let i : k - 1 + 1 ≡ k = omega arith in
       let l : length (drop k ws) ≡ length ws - k = length-drop k ws in
-      let p : 2 ^ (b + length (drop k ws)) ≡ 2 ^ (b + (length ws - k)) = ap (λ (m : ℕ). 2 ^ (b + m)) l in
+      let e : 2 ^ (b + length (drop k ws)) ≡ 2 ^ (b + (length ws - k)) = ap (λ (m : ℕ). 2 ^ (b + m)) l in
       let q : 2 ^ (b + suc (length (drop k ws))) ≡ 2 ^ (b + (length ws - (k - 1))) = ap (λ (m : ℕ). 2 ^ (b + m)) (omega arith) in
       let r : 2 ^ (b + (length ws - 1 - (k - 1))) ≡ 2 ^ (b + (length ws - k)) = ap (λ (m : ℕ). 2 ^ (b + m)) (omega arith) in
       let s : 2 ^ (b + (length ws - (k - 1))) ≤ 2 ^ (b + length ws) = pow_mono (omega arith) in
@@ -111,27 +116,28 @@ module _ (counts : List ℕ → Choice → Type 0) (b to : ℕ) (ws : List ℕ) 
       (more_of counts b _ (2 ^ (b + length ws) - 2 ^ (b + (length ws - (k - 1)))) to (get_or ws (k - 1) 0) (drop k ws) v (drop k vs) old es n n' gain
       (tail (k - 1) (drop k ws)) h g (length-drop k vs ∙ (omega arith)) (omega arith) (omega arith) (omega arith))
 
-  pub drop_paired : (k : ℕ) → length (drop k vs) ≡ length (drop k ws)
-  drop_paired k = length-drop k vs ∙ (ap (λ (m : ℕ). m - k) paired ∙ sym (length-drop k ws))
+  pub drop_paired : (k : ℕ) → length (drop k p.ways.now) ≡ length (drop k p.weights.now)
+  drop_paired k = length-drop k p.ways.now ∙ (ap (λ (m : ℕ). m - k) p.paired ∙ sym (length-drop k p.weights.now))
 
-  pub from_room : (k : ℕ) (es : List ℕ) (n : ℕ) → 0 < k → k ≤ length ws → From counts b to ws vs k es n → n + n ≤ 2 ^ length ws
+  pub from_room : (k : ℕ) (es : List ℕ) (n : ℕ) → 0 < k → k ≤ length p.weights.now → From counts b to p k es n → n + n ≤ 2 ^ length p.weights.now
   from_room k es n some within h =
-      let p : 2 ^ length (drop k ws) ≡ 2 ^ (length ws - k) = ap (λ (m : ℕ). 2 ^ m) (length-drop k ws) in
+      let ws = p.weights.now in
+      let e : 2 ^ length (drop k ws) ≡ 2 ^ (length ws - k) = ap (λ (m : ℕ). 2 ^ m) (length-drop k ws) in
       let q : 2 ^ suc (length ws - k) ≡ 2 * 2 ^ (length ws - k) = pow-succ' 2 (length ws - k) in
       let r : 2 ^ suc (length ws - k) ≤ 2 ^ length ws = pow_mono (omega arith) in
       omega (arith, h.few)
 
-  pub from_sorted : (k : ℕ) (es : List ℕ) (n : ℕ) → From counts b to ws vs k es n → Sorted es n
+  pub from_sorted : (k : ℕ) (es : List ℕ) (n : ℕ) → From counts b to p k es n → Sorted es n
   from_sorted k es n h =
-      let s : 2 ^ (b + length ws) ≤ 2 ^ 24 = pow_mono few in
+      let s : 2 ^ (b + length p.weights.now) ≤ 2 ^ 24 = pow_mono few in
       record {
         rises = h.rises;
-        low = λ p l. low_of b _ (drop k ws) (drop k vs) (get_or es p 0) (drop_paired k) (omega (arith, length-drop k ws)) (omega arith) (λ i. rw (get_or-drop k ws i 0) (light (k + i))) (h.only p l);
+        low = λ i l. low_of b _ (drop k p.weights.now) (drop k p.ways.now) (get_or es i 0) (drop_paired k) (omega (arith, length-drop k p.weights.now)) (omega arith) (λ j. rw (get_or-drop k p.weights.now j 0) (p.light (k + j))) (h.only i l);
       }
 
-  pub from_first : (k : ℕ) (es : List ℕ) (n : ℕ) → k ≤ 0 → From counts b to ws vs k es n → PartOf counts b 0 to ws vs es n
+  pub from_first : (k : ℕ) (es : List ℕ) (n : ℕ) → k ≤ 0 → From counts b to p k es n → PartOf counts b 0 to p.weights.now p.ways.now es n
   from_first zero es n l h =
-      let e : 2 ^ (b + length ws) - 2 ^ (b + (length ws - zero)) ≡ 0 = let d : length ws - 0 ≡ length ws = omega arith in rw d (omega arith) in
+      let e : 2 ^ (b + length p.weights.now) - 2 ^ (b + (length p.weights.now - zero)) ≡ 0 = let d : length p.weights.now - 0 ≡ length p.weights.now = omega arith in rw d (omega arith) in
       rw e at h
   from_first (suc k) es n l h = absurd (omega arith)
 

@@ -3,6 +3,7 @@ use Rattle.std.proofs.Common.{◌≡◌, ℕ, ◌+◌, ◌-◌, ◌^◌, ◌<◌
 use Rattle.std.proofs.lemmas.List.{length-drop, length-take-le, get_or-take}
 use Rattle.choices.specs.Choice.{Choice, opened}
 use Rattle.places.specs.Place.{by_ways, place}
+use Rattle.places.specs.declared.pans.Pans.{Pans}
 use Rattle.places.specs.declared.way.Way.{Way}
 use Rattle.places.proofs.Places.{length_by_ways, in_place}
 use Rattle.growth.specs.Entries.{Holds}
@@ -35,13 +36,14 @@ sieved_of b r lim ws vs old es n n' paired few low h g =
         rw x.2 at (g.keeps x.0 x.1 (rw x.2 k))
 
 pub from_sieved :
-    (b : ℕ) (lim : Bounds) (ws : List ℕ) (vs : List Way) (paired : length vs ≡ length ws) (few : b + length ws ≤ 24) (light : (i : ℕ) → get_or ws i 0 ≤ 1000000) →
-    (k : ℕ) → k ≤ length ws → (old es : List ℕ) (n n' : ℕ) → From (Worth lim) b lim.to ws vs k old n → Sieved lim old es n n' → From (Worth lim) b lim.to ws vs k es n'
-from_sieved b lim ws vs paired few light k within old es n n' h g =
-    let p : 2 ^ (b + length (drop k ws)) ≡ 2 ^ (b + (length ws - k)) = ap (λ (m : ℕ). 2 ^ (b + m)) (length-drop k ws) in
+    (b : ℕ) (lim : Bounds) (p : Pans) (few : b + length p.weights.now ≤ 24) (k : ℕ) → k ≤ length p.weights.now → (old es : List ℕ) (n n' : ℕ) →
+    From (Worth lim) b lim.to p k old n → Sieved lim old es n n' → From (Worth lim) b lim.to p k es n'
+from_sieved b lim p few k within old es n n' h g =
+    let ws = p.weights.now in
+    let e : 2 ^ (b + length (drop k ws)) ≡ 2 ^ (b + (length ws - k)) = ap (λ (m : ℕ). 2 ^ (b + m)) (length-drop k ws) in
     let s : 2 ^ (b + (length ws - k)) ≤ 2 ^ (b + length ws) = pow_mono (omega arith) in
     let t : 2 ^ (b + length ws) ≤ 2 ^ 24 = pow_mono few in
-    sieved_of b _ lim (drop k ws) (drop k vs) old es n n' (drop_paired (Worth lim) b lim.to ws vs paired few light k) (omega (arith, length-drop k ws)) (omega arith) h g
+    sieved_of b _ lim (drop k ws) (drop k p.ways.now) old es n n' (drop_paired (Worth lim) b lim.to p few k) (omega (arith, length-drop k ws)) (omega arith) h g
 
 -- those that are worth keeping are the half, as the part of the room that holds them and nothing else
 pub half_of :

@@ -3,4 +3,4 @@ use Rattle.growth.proofs.ByPan.{From, all}
 use Rattle.growth.proofs.parts.part.Given as goal
 
 abbrev pub invariant-loop-k : goal.invariant-loop-k
-invariant-loop-k l = From all l.behind l.to l.pans.weights.now l.pans.ways.now l.k l.es l.n
+invariant-loop-k l = From all l.behind l.to l.pans l.k l.es l.n

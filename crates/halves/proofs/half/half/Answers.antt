@@ -21,7 +21,7 @@ loop-k-init c =
     let p = c.args.pans in
     let b = c.args.behind in
     let n = length p.weights.now in
-    from_last (Worth c.args.bounds) b c.args.bounds.to p.weights.now p.ways.now p.paired c.requires.few p.light n _ refl
+    from_last (Worth c.args.bounds) b c.args.bounds.to p c.requires.few n _ refl
     (get_or-set_same c.args.es.now 0 _ 0 (omega (arith, c.requires.room, pow_pos n)) ∙ omega (arith, one_shl b 64 (omega (arith, c.requires.few)), one_shl (b + n) 64 (omega (arith, c.requires.few))))
 
 pub grow-grown-requires : goal.grow-grown-requires
@@ -29,8 +29,8 @@ grow-grown-requires c =
     let p = c.args.pans in
     let h = c.loop-k.invariant in
     record {
-      room = omega (arith, c.requires.room, simp length-set at c.loop-k.auto.es, from_room (Worth c.args.bounds) c.args.behind c.args.bounds.to p.weights.now p.ways.now p.paired c.requires.few p.light c.loop-k.k _ _ c.loop-k-test.true (omega arith) h);
-      sorted = from_sorted (Worth c.args.bounds) c.args.behind c.args.bounds.to p.weights.now p.ways.now p.paired c.requires.few p.light c.loop-k.k _ _ h;
+      room = omega (arith, c.requires.room, simp length-set at c.loop-k.auto.es, from_room (Worth c.args.bounds) c.args.behind c.args.bounds.to p c.requires.few c.loop-k.k _ _ c.loop-k-test.true (omega arith) h);
+      sorted = from_sorted (Worth c.args.bounds) c.args.behind c.args.bounds.to p c.requires.few c.loop-k.k _ _ h;
     }
 
 pub thin-n-requires : goal.thin-n-requires
@@ -39,12 +39,12 @@ thin-n-requires c = record { rises = rises_front _ _ c.grow-grown.ensures.grown.
 pub loop-k-preserved : goal.loop-k-preserved
 loop-k-preserved c =
     let p = c.args.pans in
-    from_sieved c.args.behind c.args.bounds p.weights.now p.ways.now p.paired c.requires.few p.light (c.loop-k.k - 1) (omega arith) _ _ _ _
-    (from_step (Worth c.args.bounds) c.args.behind c.args.bounds.to p.weights.now p.ways.now p.paired c.requires.few p.light (λ i us a cs. worth_tail c.args.bounds _ us a cs (c.requires.heavy i)) c.loop-k.k c.loop-k-test.true (omega arith)
+    from_sieved c.args.behind c.args.bounds p c.requires.few (c.loop-k.k - 1) (omega arith) _ _ _ _
+    (from_step (Worth c.args.bounds) c.args.behind c.args.bounds.to p c.requires.few (λ i us a cs. worth_tail c.args.bounds _ us a cs (c.requires.heavy i)) c.loop-k.k c.loop-k-test.true (omega arith)
     _ _ _ _ _ _ c.of-pan.ensures.way c.of-pan.ensures.gain c.loop-k.invariant c.grow-grown.ensures.grown) (sieved_front _ _ _ _ _ c.grow-grown.ensures.within c.thin-n.auto.es c.thin-n.ensures)
 
 pub returns : goal.returns
 returns c =
     let p = c.args.pans in
-    let h = from_first (Worth c.args.bounds) c.args.behind c.args.bounds.to p.weights.now p.ways.now p.paired c.requires.few p.light c.loop-k.k _ _ c.loop-k-test.false c.loop-k.invariant in
+    let h = from_first (Worth c.args.bounds) c.args.behind c.args.bounds.to p c.requires.few c.loop-k.k _ _ c.loop-k-test.false c.loop-k.invariant in
     half_of _ _ _ _ _ _ (omega (arith, h.few, c.requires.room, simp length-set at c.loop-k.auto.es)) h

@@ -4,4 +4,4 @@ use Rattle.halves.specs.Half.{Worth}
 use Rattle.halves.proofs.half.half.Given as goal
 
 abbrev pub invariant-loop-k : goal.invariant-loop-k
-invariant-loop-k l = From (Worth l.bounds) l.behind l.bounds.to l.pans.weights.now l.pans.ways.now l.k l.es l.n
+invariant-loop-k l = From (Worth l.bounds) l.behind l.bounds.to l.pans l.k l.es l.n

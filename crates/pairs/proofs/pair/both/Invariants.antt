@@ -4,5 +4,5 @@ use Rattle.pairs.proofs.pair.both.Given as goal
 
 abbrev pub invariant-loop-k : goal.invariant-loop-k
 invariant-loop-k l =
-    From all l.count l.to l.front.weights.now l.front.ways.now l.k l.front_room l.sizes.front
-    × From all 0 l.to l.back.weights.now l.back.ways.now l.k l.back_room l.sizes.back
+    From all l.count l.to l.front l.k l.front_room l.sizes.front
+    × From all 0 l.to l.back l.k l.back_room l.sizes.back
