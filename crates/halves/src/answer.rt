@@ -18,7 +18,7 @@ pub fn best(ring: Ring, room: &mut [u64]) -> Option<Bag>
     let made = ways(ring);
     let pans = Pans {
         weights: ring.weights,
-        ways: &made[0..count],
+        ways: &made[..count],
     };
     let target = u64::from(ring.rule.target);
     let above = u64::from(ring.rule.above);
