@@ -4,7 +4,7 @@ ghost use Rattle.halves.specs.Half.{Half};
 
 use crate::bounds::Bounds;
 use crate::sieve::thin;
-use growth::{Pan, grow};
+use growth::{Pan, all_shut, grow};
 use places::Pans;
 
 // Fills the room from the last pan to the first, with so many pans behind the half; gives the entries.
@@ -15,7 +15,7 @@ pub fn half<'a>(pans: Pans, behind: usize, bounds: Bounds, es: &'a mut [u64]) ->
     ensures { Half behind 0 bounds pans.entry.weights.now pans.entry.ways.now result.now (length result.now) }
 {
     let count = pans.weights.len();
-    es[0] = (1 << (behind + count)) - (1 << behind);
+    es[0] = all_shut(count, behind);
     let mut n = 1;
     for k in (0..count).rev() {
         let pan = Pan::of(pans, k, behind + (count - 1 - k));

@@ -4,7 +4,7 @@ ghost use Rattle.growth.specs.Entries.{Grown, Merged, Sorted};
 ghost use Rattle.growth.specs.Part.{Part};
 
 use crate::sizes::Sizes;
-use growth::{Merge, Pan, above, grow, merge, openable};
+use growth::{Merge, Pan, above, all_shut, grow, merge, openable};
 use places::Pans;
 
 // Merges the entries of both parts, turn by turn as `merge` does, so it is a `while` too.
@@ -113,8 +113,8 @@ pub fn both(
     ensures back { Part 0 0 to back.entry.weights.now back.entry.ways.now back_room.new result.back }
 {
     let count = front.weights.len();
-    front_room[0] = (1 << (count + count)) - (1 << count);
-    back_room[0] = (1 << count) - 1;
+    front_room[0] = all_shut(count, count);
+    back_room[0] = all_shut(count, 0);
     let mut sizes = Sizes { front: 1, back: 1 };
     for k in (0..count).rev() {
         let after = count - 1 - k;

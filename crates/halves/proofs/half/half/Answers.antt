@@ -9,20 +9,13 @@ use Rattle.halves.proofs.Sieving.{sieved_front}
 use Rattle.halves.proofs.ByPan.{worth_tail, from_sieved, half_of}
 use Rattle.halves.proofs.half.half.Goals as goal
 
-pub overflow_sub-es : goal.overflow_sub-es
-overflow_sub-es c =
-    let b = c.args.behind in
-    let n = length c.args.pans.weights.now in
-    let m : 2 ^ b ≤ 2 ^ (b + n) = pow_mono (omega arith) in
-    omega (arith, one_shl b 64 (omega (arith, c.requires.few)), one_shl (b + n) 64 (omega (arith, c.requires.few)))
-
 pub loop-k-init : goal.loop-k-init
 loop-k-init c =
     let p = c.args.pans in
     let b = c.args.behind in
     let n = length p.weights.now in
     from_last (Worth c.args.bounds) b c.args.bounds.to p c.requires.few n _ refl
-    (get_or-set_same c.args.es.now 0 _ 0 (omega (arith, c.requires.room, pow_pos n)) ∙ omega (arith, one_shl b 64 (omega (arith, c.requires.few)), one_shl (b + n) 64 (omega (arith, c.requires.few))))
+    (get_or-set_same c.args.es.now 0 _ 0 (omega (arith, c.requires.room, pow_pos n)) ∙ c.all_shut.ensures)
 
 pub grow-grown-requires : goal.grow-grown-requires
 grow-grown-requires c =

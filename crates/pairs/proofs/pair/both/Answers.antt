@@ -5,24 +5,16 @@ use Rattle.std.proofs.lemmas.Nat.{one_shl, pow_pos}
 use Rattle.growth.proofs.ByPan.{all, from_last, from_step, from_room, from_sorted, from_first, part_of}
 use Rattle.pairs.proofs.pair.both.Goals as goal
 
-pub overflow_sub-front_room : goal.overflow_sub-front_room
-overflow_sub-front_room c =
-    let n = length c.args.front.weights.now in
-    let m : 2 ^ n ≤ 2 ^ (n + n) = pow_mono (omega arith) in
-    omega (arith, one_shl n 64 (omega (arith, c.requires.few)), one_shl (n + n) 64 (omega (arith, c.requires.few)))
-
 pub loop-k-init : goal.loop-k-init
 loop-k-init c =
     let f = c.args.front in
     let b = c.args.back in
     let n = length f.weights.now in
-    let shl = one_shl n 64 (omega (arith, c.requires.few)) in
-    let none : 2 ^ (0 + n) ≡ 2 ^ n = ap (λ (m : ℕ). 2 ^ m) (omega arith) in
     let some : 0 < 2 ^ n = pow_pos n in (
       from_last all n c.args.to f c.requires.few n _ refl
-          (get_or-set_same c.args.front_room.now 0 _ 0 (omega (arith, c.requires.front_room)) ∙ omega (arith, shl, one_shl (n + n) 64 (omega (arith, c.requires.few)))),
+          (get_or-set_same c.args.front_room.now 0 _ 0 (omega (arith, c.requires.front_room)) ∙ c.all_shut.ensures),
       from_last all 0 c.args.to b (omega (arith, b.few)) n _ c.requires.same
-          (get_or-set_same c.args.back_room.now 0 _ 0 (omega (arith, c.requires.back_room)) ∙ omega (arith, shl, none)),
+          (get_or-set_same c.args.back_room.now 0 _ 0 (omega (arith, c.requires.back_room)) ∙ c.all_shut-2.ensures),
     )
 
 pub grow_both-sizes-requires : goal.grow_both-sizes-requires
