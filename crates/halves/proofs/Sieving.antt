@@ -1,16 +1,11 @@
 -- A sieve that moves what is kept to the front: what is settled, and what is still to be read.
 use Rattle.std.proofs.Common.{◌≡◌, ℕ, ◌+◌, ◌*◌, ◌/◌, ◌^◌, ◌<◌, ◌≤◌, true, false, ◌&&◌, leb, ◌⊎◌, List, ◌++◌, length, get_or, take, drop, set, sym, refl, ap, ◌∙◌, inl, inr, ⊎_elim, arith}
-use Rattle.std.proofs.lemmas.Nat.{mul-le}
 use Rattle.std.proofs.lemmas.List.{get_or-set_same, get_or-set_other, get_or-take, get_or_append_left, length-take-le}
 use Rattle.std.proofs.lemmas.Bool.{cases_eq, and_parts, and_from, both_ways, leb-true, le-leb}
 use Rattle.places.specs.Place.{pans_in}
 use Rattle.growth.specs.Entries.{Rises, Holds}
 use Rattle.halves.specs.Half.{Kept, Sieved}
 use Rattle.halves.specs.declared.bounds.Bounds.{Bounds}
-
--- what the pans that may be opened weigh at most
-pub most_small : (lim : Bounds) → lim.limit * lim.heaviest ≤ 4294967296 * 1000000
-most_small lim = mul-le lim.limit lim.heaviest 4294967296 1000000 (omega (arith, lim.few)) lim.light
 
 -- of the first i entries those that are kept are the first k
 pub record Sieving (lim : Bounds) (old es : List ℕ) (n i k : ℕ) : Type 0 where

@@ -1,7 +1,7 @@
 -- What is left of the proof that the entries are the part's.
-use Rattle.std.proofs.Common.{◌+◌, ◌-◌, ◌^◌, ◌≤◌, length, refl, ◌∙◌, arith, pow_mono}
+use Rattle.std.proofs.Common.{length, refl, ◌∙◌, arith}
 use Rattle.std.proofs.lemmas.List.{length-set, get_or-set_same}
-use Rattle.std.proofs.lemmas.Nat.{one_shl, pow_pos}
+use Rattle.std.proofs.lemmas.Nat.{pow_pos}
 use Rattle.growth.proofs.ByPan.{all, from_last, from_step, from_room, from_sorted, from_first, part_of}
 use Rattle.growth.proofs.parts.part.Goals as goal
 

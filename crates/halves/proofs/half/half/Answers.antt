@@ -1,7 +1,7 @@
 -- What is left of the proof that the entries are the half's.
-use Rattle.std.proofs.Common.{◌+◌, ◌-◌, ◌^◌, ◌≤◌, length, refl, ◌∙◌, arith, pow_mono}
+use Rattle.std.proofs.Common.{◌-◌, length, refl, ◌∙◌, arith}
 use Rattle.std.proofs.lemmas.List.{length-set, get_or-set_same}
-use Rattle.std.proofs.lemmas.Nat.{one_shl, pow_pos}
+use Rattle.std.proofs.lemmas.Nat.{pow_pos}
 use Rattle.halves.specs.Half.{Worth}
 use Rattle.growth.proofs.ByPan.{from_last, from_step, from_room, from_sorted, from_first}
 use Rattle.growth.proofs.Fronts.{rises_front}

@@ -1,5 +1,5 @@
 -- What is left of the proof that both halves are filled.
-use Rattle.std.proofs.Common.{◌≡◌, ℕ, ◌-◌, ◌/◌, ◌^◌, length, take, drop, refl, ap, ◌∙◌, arith, rules}
+use Rattle.std.proofs.Common.{◌≡◌, ℕ, ◌-◌, ◌/◌, ◌^◌, length, take, drop, ap, ◌∙◌, arith}
 use Rattle.std.proofs.lemmas.List.{length-take, length-drop}
 use Rattle.halves.proofs.Rooms.{heavy_take, heavy_drop, half_low}
 use Rattle.halves.proofs.halves.fill.Goals as goal
@@ -39,17 +39,12 @@ invariant_of-lists c =
       back_low = half_low _ _ _ _ _ _ r.1.paired (omega (arith, r.1.few)) r.1.light c.half-back.ensures;
     }
 
-pub returns : goal.returns
-returns c =
+pub returns-clause-filled : goal.returns-clause-filled
+returns-clause-filled c =
     let ws = c.args.pans.weights.now in
     let s = c.split_at.ensures in
     record {
-      filled = record {
-        heavy = λ i. omega (arith, c.from-3.ensures, c.heaviest.ensures.most i);
-        front = rw (s.front_weights, s.front_ways, ap length s.back_weights ∙ length-drop (length ws / 2) ws) at c.half-front.ensures;
-        back = rw (s.back_weights, s.back_ways) at c.half-back.ensures;
-      };
-      limit = search rules;
-      least = search rules;
-      to = refl;
+      heavy = λ i. omega (arith, c.from-3.ensures, c.heaviest.ensures.most i);
+      front = rw (s.front_weights, s.front_ways, ap length s.back_weights ∙ length-drop (length ws / 2) ws) at c.half-front.ensures;
+      back = rw (s.back_weights, s.back_ways) at c.half-back.ensures;
     }

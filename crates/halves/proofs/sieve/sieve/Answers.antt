@@ -12,5 +12,5 @@ loop-i-preserved c =
       | else-worth w ↦ inr (w.left-is, kept_false c.args.bounds _ _ (c.loop-i.invariant.unread c.loop-i.i (omega arith)) w.if-worth.ensures)
     ])
 
-pub returns : goal.returns
-returns c = record { sieved = sieving_all _ _ _ _ _ _ c.loop-i.invariant (omega arith); lean = c.loop-i.invariant.lean }
+pub returns-clause-sieved : goal.returns-clause-sieved
+returns-clause-sieved c = sieving_all _ _ _ _ _ _ c.loop-i.invariant (omega arith)
