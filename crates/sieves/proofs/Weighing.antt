@@ -1,6 +1,6 @@
 -- What so many pans weigh at most, pan by pan.
-use Rattle.std.proofs.Common.{◌≡◌, ℕ, zero, suc, ◌+◌, ◌-◌, ◌*◌, ◌<◌, ◌≤◌, max, true, false, List, [], ◌∷◌, ◌++◌, length, get_or, set, refl, sym, ap, ◌∙◌, ⊎_elim, append_assoc, length-append, arith}
-use Rattle.std.proofs.lemmas.List.{append-nil, get_or-set_same, get_or-set_other, get_or_past, get_or_at, length-set}
+use Rattle.std.proofs.Common.{◌≡◌, ℕ, zero, suc, ◌+◌, ◌-◌, ◌*◌, ◌<◌, ◌≤◌, max, true, false, List, [], ◌∷◌, ◌++◌, length, get_or, set, refl, ap, ◌∙◌, ⊎_elim, append_assoc, length-append, arith}
+use Rattle.std.proofs.lemmas.List.{get_or-set_same, get_or-set_other, get_or_past, get_or_at, length-set}
 use Rattle.std.proofs.lemmas.Bool.{cases_eq, cases_lt}
 use Rattle.sieves.specs.Sieve.{Most}
 
@@ -57,9 +57,6 @@ pub record Weighing (ws rest old most : List ℕ) : Type 0 where
   pub weighs : (us : List ℕ) → Most us old → Most (taken ++ us) most
   pub low : (b : ℕ) → ((r : ℕ) → get_or old r 0 ≤ b) → (r : ℕ) → get_or most r 0 ≤ b + length taken * 1000000
 
-pub weighing_none : (ws old : List ℕ) → Weighing ws ws old old
-weighing_none ws old = record { taken = []; whole = sym (append-nil ws); weighs = λ us h. h; low = λ b low r. omega (arith, low r) }
-
 pub weighing_more :
     (ws rest old most new : List ℕ) (w : ℕ) → Weighing ws (rest ++ w ∷ []) old most → ((i : ℕ) → get_or ws i 0 ≤ 1000000) → length new ≡ 25 →
     get_or new 0 0 ≡ get_or most 0 0 → ((r : ℕ) → r < 24 → get_or new (r + 1) 0 ≡ max (get_or most (r + 1) 0) (get_or most r 0 + w)) → Weighing ws rest old new
@@ -77,14 +74,6 @@ weighing_more ws rest old most new w h light long none more =
     here : get_or ws (length rest) 0 ≡ w
     here = rw whole (get_or_at rest w h.taken 0 (length rest) refl)
 
--- all pans are taken in
-pub record Weighed (ws old most : List ℕ) : Type 0 where
-  pub weighs : (us : List ℕ) → Most us old → Most (ws ++ us) most
-  pub low : (b : ℕ) → ((r : ℕ) → get_or old r 0 ≤ b) → (r : ℕ) → get_or most r 0 ≤ b + length ws * 1000000
-
-pub weighing_all : (ws rest old most : List ℕ) → Weighing ws rest old most → length rest ≡ 0 → Weighed ws old most
-weighing_all ws [] old most h e = rw h.whole (record { weighs = h.weighs; low = h.low })
-weighing_all ws (w ∷ rest) old most h e = absurd (omega arith)
-
+-- what they weigh is low
 pub weighing_low : (ws rest old most : List ℕ) (b : ℕ) → Weighing ws rest old most → ((r : ℕ) → get_or old r 0 ≤ b) → (r : ℕ) → get_or most r 0 ≤ b + length ws * 1000000
 weighing_low ws rest old most b h low r = omega (arith, h.low b low r, ap length h.whole, length-append rest h.taken)

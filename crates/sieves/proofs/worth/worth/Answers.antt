@@ -4,7 +4,7 @@ use Rattle.std.proofs.lemmas.List.{append-nil, length-drop, length-take, take_al
 use Rattle.std.proofs.lemmas.Bool.{cases_lt}
 use Rattle.sieves.specs.Sieve.{Most}
 use Rattle.places.proofs.Made.{made_each}
-use Rattle.sieves.proofs.Parts.{light_take, light_drop, short_from}
+use Rattle.sieves.proofs.Parts.{short_from}
 use Rattle.sieves.proofs.Weighing.{most_none}
 use Rattle.sieves.proofs.worth.worth.Goals as goal
 
@@ -18,19 +18,11 @@ rest n ws = take_all (length ws - n) (drop n ws) (omega (arith, length-drop n ws
 pub with_pans-requires-clause-low : goal.with_pans-requires-clause-low
 with_pans-requires-clause-low c = λ r. omega (arith, zeros r)
 
-pub with_pans-requires-clause-light : goal.with_pans-requires-clause-light
-with_pans-requires-clause-light c =
-    let n = c.args.span.skip + c.args.span.len in
-    rw (rest n c.args.span.pans.weights.now) (light_drop 1000000 n c.args.span.pans.weights.now c.args.span.pans.light)
-
 pub with_pans-requires-2-clause-low : goal.with_pans-requires-2-clause-low
 with_pans-requires-2-clause-low c =
     let ws = c.args.span.pans.weights.now in
     let n = c.args.span.skip + c.args.span.len in
     λ r. omega (arith, c.with_pans.ensures.low 0 zeros r, length-take (length ws - n) (drop n ws), length-drop n ws, c.args.span.pans.few)
-
-pub with_pans-requires-2-clause-light : goal.with_pans-requires-2-clause-light
-with_pans-requires-2-clause-light c = light_take 1000000 c.args.span.skip c.args.span.pans.weights.now c.args.span.pans.light
 
 pub returns : goal.returns
 returns c =
