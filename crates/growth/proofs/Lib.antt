@@ -2,3 +2,4 @@
 pub mod ByPan
 pub mod Growing
 pub mod Merging
+pub mod Fronts

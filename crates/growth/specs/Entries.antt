@@ -1,13 +1,18 @@
 -- The entries of a part of the pans as it grows by a pan. Assumes nothing: these are definitions.
 --   Rises        the first n entries are in order
+--   Sorted       the same, and they are low enough for sums to fit
 --   Holds        a number is among the first n entries
 --   Below        the first r of the first n entries are those that stay below the bound with the gain
 --   Merged       what stood in the first n entries, and what stood in the first m of them with the gain, in order
-use Rattle.std.specs.Prelude.{◌≡◌, ℕ, ◌+◌, ◌<◌, ◌≤◌, true, ◌⊎◌, List, slice_index}
+use Rattle.std.specs.Prelude.{◌≡◌, ℕ, ◌+◌, ◌^◌, ◌<◌, ◌≤◌, true, ◌⊎◌, List, slice_index}
 use Rattle.places.specs.declared.way.Way.{Way}
 
 abbrev pub Rises : List ℕ → ℕ → Type 0
 Rises es n = (p q : ℕ) → p ≤ q → q < n → slice_index es p ≤ slice_index es q
+
+pub record Sorted (es : List ℕ) (n : ℕ) : Type 0 where
+  pub rises : Rises es n
+  pub low : (p : ℕ) → p < n → slice_index es p < 2 ^ 62
 
 abbrev pub Holds : List ℕ → ℕ → ℕ → Type 0
 Holds es n x = (q : ℕ) × (q < n) × (slice_index es q ≡ x)

@@ -11,4 +11,4 @@ pub use job::Merge;
 pub use merges::{above, merge};
 pub use more::{grow, openable};
 pub use pan::Pan;
-pub use parts::{gain, part};
+pub use parts::{all_shut, gain, part};

@@ -1,75 +1,26 @@
--- A half grows by one pan, from the last pan to the first.
-use Rattle.std.proofs.Common.{◌≡◌, ℕ, zero, suc, ◌+◌, ◌-◌, ◌*◌, ◌^◌, ◌<◌, ◌≤◌, true, false, ◌⊎◌, List, [], ◌∷◌, length, get_or, drop, set, sym, refl, ap, ◌∙◌, inl, inr, add-mul, arith, pow_mono}
-use native.Mathlib.Nat.{pow-succ'}
-use Rattle.std.proofs.lemmas.Bool.{and_parts, and_from, both_ways}
-use Rattle.std.proofs.lemmas.Nat.{pow_below}
-use Rattle.std.proofs.lemmas.List.{drop_all, drop_more, length-drop, get_or-drop, get_or-set_same}
+-- A half grows by one pan and is sieved, from the last pan to the first.
+use Rattle.std.proofs.Common.{◌≡◌, ℕ, ◌+◌, ◌-◌, ◌^◌, ◌<◌, ◌≤◌, Bool, true, false, List, ◌∷◌, length, get_or, take, drop, sym, ap, ◌∙◌, add-mul, arith, pow_mono}
+use Rattle.std.proofs.lemmas.List.{length-drop, length-take-le, get_or-take}
 use Rattle.choices.specs.Choice.{Choice, opened}
-use Rattle.halves.specs.Place.{by_ways, place}
-use Rattle.halves.specs.Entries.{Holds, Grown}
+use Rattle.places.specs.Place.{by_ways, place}
+use Rattle.places.specs.declared.pans.Pans.{Pans}
+use Rattle.places.specs.declared.way.Way.{Way}
+use Rattle.places.proofs.Places.{length_by_ways, in_place}
+use Rattle.growth.specs.Entries.{Holds}
+use Rattle.growth.proofs.ByPan.{PartOf, From, drop_paired}
 use Rattle.halves.specs.Half.{Half, Worth, Kept, Sieved}
 use Rattle.halves.specs.declared.bounds.Bounds.{Bounds}
-use Rattle.halves.specs.declared.way.Way.{Way}
-use Rattle.halves.proofs.Places.{length_by_ways, in_place, pow_more, place_below}
 
--- no pan yet: one choice, that of no pans
-pub half_none : (b r : ℕ) (lim : Bounds) (es : List ℕ) → get_or es 0 0 ≡ r → Half b r lim [] [] es 1
-half_none b r lim es e =
-    record {
-      few = omega arith;
-      rises = λ p q a l. let d : p ≡ q = omega arith in rw d (omega arith);
-      every = λ cs h a l. (0, omega arith, e ∙ omega arith);
-      only = λ q l. ([], refl, one q l);
-    }
-  where
-    one : (q : ℕ) → q < 1 → 0 + r ≡ get_or es q 0
-    one q l = let d : q ≡ 0 = omega arith in rw d (omega (arith, e))
-
--- one pan more in front
-pub half_more :
-    (b r r' : ℕ) (lim : Bounds) (w : ℕ) (ws : List ℕ) (v : Way) (vs : List Way) (old es : List ℕ) (n n' gain : ℕ) →
-    Half b r lim ws vs old n → Grown lim.to v gain old es n n' → length vs ≡ length ws → w ≤ lim.heaviest → b + length ws < 24 →
-    r' + 2 ^ (b + length ws) ≡ r → gain + 2 ^ (b + length ws) ≡ w * 2 ^ 29 + 2 ^ 24 →
-    Half b r' lim (w ∷ ws) (v ∷ vs) es n'
-half_more b r r' lim w ws v vs old es n n' gain h g paired heavy few lower gained =
-    record {
-      few = rw (pow-succ' 2 (length ws)) (omega (arith, h.few, g.few));
-      rises = g.rises;
-      every = every;
-      only = λ q l. only q (g.only q l);
-    }
-  where
-    every : (cs : Choice) → by_ways (v ∷ vs) cs ≡ true → Worth lim (w ∷ ws) cs → place b (w ∷ ws) cs + r' < lim.to → Holds es n' (place b (w ∷ ws) cs + r')
-    every [] a o l = absurd (both_ways false refl a)
-    every (true ∷ cs) a o l =
-        let k : (v.opens ≡ true) × (by_ways vs cs ≡ true) = and_parts v.opens (by_ways vs cs) a in
-        let u : Worth lim ws cs = record { few = omega (arith, o.few); reach = omega (arith, o.reach, add-mul 1 (opened cs) lim.heaviest) } in
-        let s : 2 ^ (b + length ws) < 2 ^ 24 = pow_below (b + length ws) 24 few in
-        let x : Holds old n (place b ws cs + r) = h.every cs k.1 u (omega arith) in
-        let y : get_or old x.0 0 + gain ≡ place b (w ∷ ws) (true ∷ cs) + r' = omega (arith, x.2) in
-        let t : get_or old x.0 0 + gain < lim.to = omega arith in
-        rw y at (g.adds k.0 x.0 x.1 t)
-    every (false ∷ cs) a o l =
-        let k : (v.stays ≡ true) × (by_ways vs cs ≡ true) = and_parts v.stays (by_ways vs cs) a in
-        let u : Worth lim ws cs = record { few = omega (arith, o.few); reach = omega (arith, o.reach, add-mul 0 (opened cs) lim.heaviest) } in
-        let p : 2 ^ (b + length cs) ≡ 2 ^ (b + length ws) = ap (λ (m : ℕ). 2 ^ (b + m)) (length_by_ways vs cs k.1 ∙ paired) in
-        let x : Holds old n (place b ws cs + r) = h.every cs k.1 u (omega arith) in
-        let y : get_or old x.0 0 ≡ place b (w ∷ ws) (false ∷ cs) + r' = omega (arith, x.2) in
-        rw y at (g.keeps k.0 x.0 x.1)
-
-    only : (q : ℕ) → ((v.stays ≡ true) × Holds old n (get_or es q 0)) ⊎ ((v.opens ≡ true) × ((p : ℕ) × (p < n) × (get_or old p 0 + gain ≡ get_or es q 0))) → (cs : Choice) × (by_ways (v ∷ vs) cs ≡ true) × (place b (w ∷ ws) cs + r' ≡ get_or es q 0)
-    only q (inl (s, (p, l, e))) =
-        let x = h.only p l in
-        (false ∷ x.0, and_from _ _ s x.1, omega (arith, e, x.2, ap (λ (m : ℕ). 2 ^ (b + m)) (length_by_ways vs x.0 x.1 ∙ paired)))
-    only q (inr (s, (p, l, e))) =
-        let x = h.only p l in
-        (true ∷ x.0, and_from _ _ s x.1, omega (arith, e, x.2))
+-- what is worth keeping with a pan in front is so without it
+pub worth_tail : (lim : Bounds) (w : ℕ) (us : List ℕ) (c : Bool) (cs : Choice) → w ≤ lim.heaviest → Worth lim (w ∷ us) (c ∷ cs) → Worth lim us cs
+worth_tail lim w us true cs h o = record { few = omega (arith, o.few); reach = omega (arith, o.reach, add-mul 1 (opened cs) lim.heaviest) }
+worth_tail lim w us false cs h o = record { few = omega (arith, o.few); reach = omega (arith, o.reach, add-mul 0 (opened cs) lim.heaviest) }
 
 -- what is worth keeping passes the sieve
-pub half_sieved :
+sieved_of :
     (b r : ℕ) (lim : Bounds) (ws : List ℕ) (vs : List Way) (old es : List ℕ) (n n' : ℕ) → length vs ≡ length ws → length ws ≤ 24 → r + 2 ^ (b + length ws) ≤ 2 ^ 24 →
-    Half b r lim ws vs old n → Sieved lim old es n n' → Half b r lim ws vs es n'
-half_sieved b r lim ws vs old es n n' paired few low h g =
+    PartOf (Worth lim) b r lim.to ws vs old n → Sieved lim old es n n' → PartOf (Worth lim) b r lim.to ws vs es n'
+sieved_of b r lim ws vs old es n n' paired few low h g =
     record {
       few = omega (arith, h.few, g.fewer);
       rises = g.rises;
@@ -84,72 +35,26 @@ half_sieved b r lim ws vs old es n n' paired few low h g =
         let k : Kept lim (place b ws cs + r) = rw (d.0, d.1) (o.few, o.reach) in
         rw x.2 at (g.keeps x.0 x.1 (rw x.2 k))
 
--- all entries are low enough for sums to fit
-pub half_low :
-    (b r : ℕ) (lim : Bounds) (ws : List ℕ) (vs : List Way) (es : List ℕ) (n : ℕ) → length vs ≡ length ws → b + length ws ≤ 24 → r ≤ 2 ^ 24 →
-    ((i : ℕ) → get_or ws i 0 ≤ 1000000) → Half b r lim ws vs es n → (p : ℕ) → p < n → get_or es p 0 < 2 ^ 62
-half_low b r lim ws vs es n paired few low light h p l =
-    let x = h.only p l in
-    omega (arith, x.2, place_below b ws x.0 light few (length_by_ways vs x.0 x.1 ∙ paired))
+pub from_sieved :
+    (b : ℕ) (lim : Bounds) (p : Pans) (few : b + length p.weights.now ≤ 24) (k : ℕ) → k ≤ length p.weights.now → (old es : List ℕ) (n n' : ℕ) →
+    From (Worth lim) b lim.to p k old n → Sieved lim old es n n' → From (Worth lim) b lim.to p k es n'
+from_sieved b lim p few k within old es n n' h g =
+    let ws = p.weights.now in
+    let e : 2 ^ (b + length (drop k ws)) ≡ 2 ^ (b + (length ws - k)) = ap (λ (m : ℕ). 2 ^ (b + m)) (length-drop k ws) in
+    let s : 2 ^ (b + (length ws - k)) ≤ 2 ^ (b + length ws) = pow_mono (omega arith) in
+    let t : 2 ^ (b + length ws) ≤ 2 ^ 24 = pow_mono few in
+    sieved_of b _ lim (drop k ws) (drop k p.ways.now) old es n n' (drop_paired (Worth lim) b lim.to p few k) (omega (arith, length-drop k ws)) (omega arith) h g
 
--- what the pans before k add while they stay shut
-abbrev pub lift : ℕ → ℕ → ℕ → ℕ
-lift b n k = 2 ^ (b + n) - 2 ^ (b + (n - k))
-
--- the pans from k on
-module _ (b : ℕ) (lim : Bounds) (ws : List ℕ) (vs : List Way) (paired : length vs ≡ length ws) (few : b + length ws ≤ 24) (heavy : (i : ℕ) → get_or ws i 0 ≤ lim.heaviest) where
-  pub half_last : (es : List ℕ) (x : ℕ) → x ≡ 2 ^ (b + length ws) - 2 ^ b → 0 < length es → Half b (lift b (length ws) (length ws)) lim (drop (length ws) ws) (drop (length ws) vs) (set es 0 x) 1
-  half_last es x e some =
-      let d : b + (length ws - length ws) ≡ b = omega arith in
-      let k : length vs ≤ length ws = omega arith in
-      rw (drop_all (length ws) ws (omega arith), drop_all (length ws) vs k, d) (half_none b _ lim (set es 0 x) (get_or-set_same es 0 x 0 some ∙ e))
-
-  pub half_step :
-      (k : ℕ) → 0 < k → k ≤ length ws → (d : Way) (gain : ℕ) (old es : List ℕ) (n n' : ℕ) →
-      gain + 2 ^ (b + (length ws - 1 - (k - 1))) ≡ get_or ws (k - 1) 0 * 2 ^ 29 + 2 ^ 24 →
-      Half b (lift b (length ws) k) lim (drop k ws) (drop k vs) old n → Grown lim.to (get_or vs (k - 1) d) gain old es n n' →
-      Half b (lift b (length ws) (k - 1)) lim (drop (k - 1) ws) (drop (k - 1) vs) es n'
-  half_step k some within d gain old es n n' gained h g =
-      let i : k - 1 + 1 ≡ k = omega arith in
-      let l : length (drop k ws) ≡ length ws - k = length-drop k ws in
-      let p : 2 ^ (b + length (drop k ws)) ≡ 2 ^ (b + (length ws - k)) = ap (λ (m : ℕ). 2 ^ (b + m)) l in
-      let q : 2 ^ (b + suc (length (drop k ws))) ≡ 2 ^ (b + (length ws - (k - 1))) = ap (λ (m : ℕ). 2 ^ (b + m)) (omega arith) in
-      let r : 2 ^ (b + (length ws - 1 - (k - 1))) ≡ 2 ^ (b + (length ws - k)) = ap (λ (m : ℕ). 2 ^ (b + m)) (omega arith) in
-      let s : 2 ^ (b + (length ws - (k - 1))) ≤ 2 ^ (b + length ws) = pow_mono (omega arith) in
-      let t : 2 ^ (b + length ws) ≤ 2 ^ 24 = pow_mono few in
-      let u : 2 ^ (b + suc (length (drop k ws))) ≡ 2 * 2 ^ (b + length (drop k ws)) = pow_more b (length (drop k ws)) in
-      let v : drop (k - 1) ws ≡ get_or ws (k - 1) 0 ∷ drop k ws = rw i at (drop_more ws (k - 1) 0 (omega arith)) in
-      let w : drop (k - 1) vs ≡ get_or vs (k - 1) d ∷ drop k vs = rw i at (drop_more vs (k - 1) d (omega arith)) in
-      rw (v, w)
-      (half_more b (lift b (length ws) k) (lift b (length ws) (k - 1)) lim (get_or ws (k - 1) 0) (drop k ws) (get_or vs (k - 1) d) (drop k vs) old es n n' gain h g
-      (length-drop k vs ∙ (omega arith)) (heavy (k - 1)) (omega arith) (omega arith) (omega arith))
-
-  drop_paired : (k : ℕ) → length (drop k vs) ≡ length (drop k ws)
-  drop_paired k = length-drop k vs ∙ (ap (λ (m : ℕ). m - k) paired ∙ sym (length-drop k ws))
-
-  pub half_thin :
-      (k : ℕ) → k ≤ length ws → (old es : List ℕ) (n n' : ℕ) → Half b (lift b (length ws) k) lim (drop k ws) (drop k vs) old n → Sieved lim old es n n' →
-      Half b (lift b (length ws) k) lim (drop k ws) (drop k vs) es n'
-  half_thin k within old es n n' h g =
-      let p : 2 ^ (b + length (drop k ws)) ≡ 2 ^ (b + (length ws - k)) = ap (λ (m : ℕ). 2 ^ (b + m)) (length-drop k ws) in
-      let s : 2 ^ (b + (length ws - k)) ≤ 2 ^ (b + length ws) = pow_mono (omega arith) in
-      let t : 2 ^ (b + length ws) ≤ 2 ^ 24 = pow_mono few in
-      half_sieved b (lift b (length ws) k) lim (drop k ws) (drop k vs) old es n n' (drop_paired k) (omega (arith, length-drop k ws)) (omega arith) h g
-
-  pub half_room : (k : ℕ) (es : List ℕ) (n : ℕ) → 0 < k → k ≤ length ws → 2 ^ length ws ≤ length es → Half b (lift b (length ws) k) lim (drop k ws) (drop k vs) es n → n + n ≤ length es
-  half_room k es n some within room h =
-      let p : 2 ^ length (drop k ws) ≡ 2 ^ (length ws - k) = ap (λ (m : ℕ). 2 ^ m) (length-drop k ws) in
-      let q : 2 ^ suc (length ws - k) ≡ 2 * 2 ^ (length ws - k) = pow-succ' 2 (length ws - k) in
-      let r : 2 ^ suc (length ws - k) ≤ 2 ^ length ws = pow_mono (omega arith) in
-      omega (arith, h.few)
-
-  pub half_below : (k : ℕ) (es : List ℕ) (n : ℕ) → Half b (lift b (length ws) k) lim (drop k ws) (drop k vs) es n → (p : ℕ) → p < n → get_or es p 0 < 2 ^ 62
-  half_below k es n h =
-      let s : 2 ^ (b + length ws) ≤ 2 ^ 24 = pow_mono few in
-      half_low b (lift b (length ws) k) lim (drop k ws) (drop k vs) es n (drop_paired k) (omega (arith, length-drop k ws)) (omega arith) (λ i. rw (get_or-drop k ws i 0) (omega (arith, heavy (k + i), lim.light))) h
-
-  pub half_first : (k : ℕ) (es : List ℕ) (n : ℕ) → k ≤ 0 → Half b (lift b (length ws) k) lim (drop k ws) (drop k vs) es n → Half b 0 lim ws vs es n
-  half_first zero es n l h =
-      let e : lift b (length ws) zero ≡ 0 = let d : length ws - 0 ≡ length ws = omega arith in rw d (omega arith) in
-      rw e at h
-  half_first (suc k) es n l h = absurd (omega arith)
+-- those that are worth keeping are the half, as the part of the room that holds them and nothing else
+pub half_of :
+    (b : ℕ) (lim : Bounds) (ws : List ℕ) (vs : List Way) (es : List ℕ) (n : ℕ) → n ≤ length es → PartOf (Worth lim) b 0 lim.to ws vs es n →
+    Half b 0 lim ws vs (take n es) (length (take n es))
+half_of b lim ws vs es n room h = rw (length-take-le n es room) (record {
+  few = h.few;
+  rises = λ p q a l. omega (arith, same p (omega arith), same q l, h.rises p q a l);
+  every = λ cs w o l. let x = h.every cs w o l in (x.0, x.1, same x.0 x.1 ∙ x.2);
+  only = λ q l. let x = h.only q l in (x.0, x.1, x.2 ∙ sym (same q l));
+})
+  where
+    same : (p : ℕ) → p < n → get_or (take n es) p 0 ≡ get_or es p 0
+    same p l = get_or-take n es p 0 l

@@ -4,14 +4,14 @@ use Rattle.std.proofs.lemmas.Bool.{and_parts, and_from, both_ways, cases_lt}
 use Rattle.std.proofs.lemmas.Nat.{mul-le}
 use Rattle.std.proofs.lemmas.List.{length-append}
 use Rattle.choices.specs.Choice.{Choice, weight_of, opened}
-use Rattle.halves.specs.Place.{by_ways, place, pans_in}
-use Rattle.halves.specs.Entries.{Holds}
+use Rattle.places.specs.Place.{by_ways, place, pans_in}
+use Rattle.growth.specs.Entries.{Holds}
 use Rattle.halves.specs.Half.{Half, Worth}
 use Rattle.halves.specs.declared.bounds.Bounds.{Bounds}
-use Rattle.halves.specs.Sweep.{Apart, Few, Pair, LeastSum}
+use Rattle.sweeps.specs.Sweep.{ApartPairs, Few, Pair, LeastSum}
 use Rattle.halves.specs.Next.{Allowed, First}
-use Rattle.halves.specs.declared.way.Way.{Way}
-use Rattle.halves.proofs.Places.{length_by_ways, in_place, place_says, weight_le}
+use Rattle.places.specs.declared.way.Way.{Way}
+use Rattle.places.proofs.Places.{length_by_ways, in_place, place_says, weight_le}
 
 pub by_ways_join : (us vs : List Way) (cs ds : Choice) → by_ways us cs ≡ true → by_ways vs ds ≡ true → by_ways (us ++ vs) (cs ++ ds) ≡ true
 by_ways_join [] vs [] ds a b = b
@@ -66,7 +66,7 @@ module _ (us ws : List ℕ) (ups vs : List Way) (lim : Bounds) (fs bs : List ℕ
       let k : 2 ^ (0 + length ws) ≤ 2 ^ 24 = pow_mono {j = 24} (omega arith) in
       (in_place 0 0 ws ds (length_by_ways vs ds h ∙ back_paired) (omega arith) (omega arith)).1
 
-  pub counts_apart : Apart fs bs
+  pub counts_apart : ApartPairs fs bs
   counts_apart p q a b =
       let f : (cs : Choice) × (by_ways ups cs ≡ true) × (place (length ws) us cs + 0 ≡ get_or fs p 0) = front.only p a in
       let g : (ds : Choice) × (by_ways vs ds ≡ true) × (place 0 ws ds + 0 ≡ get_or bs q 0) = back.only q b in

@@ -1,16 +1,11 @@
 -- A sieve that moves what is kept to the front: what is settled, and what is still to be read.
-use Rattle.std.proofs.Common.{◌≡◌, ℕ, ◌+◌, ◌*◌, ◌/◌, ◌^◌, ◌<◌, ◌≤◌, true, false, ◌&&◌, leb, ◌⊎◌, List, length, get_or, set, sym, refl, ap, ◌∙◌, inl, inr, ⊎_elim, arith}
-use Rattle.std.proofs.lemmas.Nat.{mul-le}
-use Rattle.std.proofs.lemmas.List.{get_or-set_same, get_or-set_other}
+use Rattle.std.proofs.Common.{◌≡◌, ℕ, ◌+◌, ◌*◌, ◌/◌, ◌^◌, ◌<◌, ◌≤◌, true, false, ◌&&◌, leb, ◌⊎◌, List, ◌++◌, length, get_or, take, drop, set, sym, refl, ap, ◌∙◌, inl, inr, ⊎_elim, arith}
+use Rattle.std.proofs.lemmas.List.{get_or-set_same, get_or-set_other, get_or-take, get_or_append_left, length-take-le}
 use Rattle.std.proofs.lemmas.Bool.{cases_eq, and_parts, and_from, both_ways, leb-true, le-leb}
-use Rattle.halves.specs.Place.{pans_in}
-use Rattle.halves.specs.Entries.{Rises, Holds}
+use Rattle.places.specs.Place.{pans_in}
+use Rattle.growth.specs.Entries.{Rises, Holds}
 use Rattle.halves.specs.Half.{Kept, Sieved}
 use Rattle.halves.specs.declared.bounds.Bounds.{Bounds}
-
--- what the pans that may be opened weigh at most
-pub most_small : (lim : Bounds) → lim.limit * lim.heaviest ≤ 4294967296 * 1000000
-most_small lim = mul-le lim.limit lim.heaviest 4294967296 1000000 (omega (arith, lim.few)) lim.light
 
 -- of the first i entries those that are kept are the first k
 pub record Sieving (lim : Bounds) (old es : List ℕ) (n i k : ℕ) : Type 0 where
@@ -77,3 +72,24 @@ module _ (lim : Bounds) (x y : ℕ) (same : x ≡ y) where
 
   pub kept_false : false ≡ (leb (pans_in x) lim.limit && leb (lim.least + pans_in x * lim.heaviest) (x / 2 ^ 29 + lim.limit * lim.heaviest)) → Kept lim y → ⊥
   kept_false h k = let z : Kept lim x = rw same k in both_ways _ (sym h) (and_from _ _ (le-leb _ _ z.0) (le-leb _ _ z.1))
+
+-- as of the first entries of a longer slice
+pub sieved_front :
+    (lim : Bounds) (old bs : List ℕ) (n r : ℕ) → n ≤ length old → length bs ≡ length (take n old) → Sieved lim (take n old) bs (length (take n old)) r →
+    Sieved lim old (bs ++ drop n old) n r
+sieved_front lim old bs n r room long h =
+    record {
+      fewer = omega (arith, h.fewer, whole);
+      rises = λ p q a l. omega (arith, now p (omega arith), now q l, h.rises p q a l);
+      keeps = λ p l o. let x = h.keeps p (omega (arith, whole)) (rw (was p l) o) in (x.0, x.1, now x.0 x.1 ∙ (x.2 ∙ was p l));
+      only = λ q l. let x = h.only q l in let k : x.0 < n = omega (arith, x.1, whole) in (x.0, k, sym (was x.0 k) ∙ (x.2 ∙ sym (now q l)));
+    }
+  where
+    whole : length (take n old) ≡ n
+    whole = length-take-le n old room
+
+    was : (p : ℕ) → p < n → get_or (take n old) p 0 ≡ get_or old p 0
+    was p l = get_or-take n old p 0 l
+
+    now : (q : ℕ) → q < r → get_or (bs ++ drop n old) q 0 ≡ get_or bs q 0
+    now q l = get_or_append_left bs (drop n old) 0 q (omega (arith, h.fewer))

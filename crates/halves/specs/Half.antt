@@ -7,10 +7,10 @@
 --                what is not worth keeping or is not below the bound
 use Rattle.std.specs.Prelude.{◌≡◌, ℕ, ◌+◌, ◌*◌, ◌/◌, ◌^◌, ◌<◌, ◌≤◌, true, List, length, slice_index}
 use Rattle.choices.specs.Choice.{Choice, weight_of, opened}
-use Rattle.halves.specs.Place.{by_ways, place, pans_in}
-use Rattle.halves.specs.Entries.{Rises, Holds}
+use Rattle.places.specs.Place.{by_ways, place, pans_in}
+use Rattle.growth.specs.Entries.{Rises, Holds}
 use Rattle.halves.specs.declared.bounds.Bounds.{Bounds}
-use Rattle.halves.specs.declared.way.Way.{Way}
+use Rattle.places.specs.declared.way.Way.{Way}
 
 pub record Worth (lim : Bounds) (ws : List ℕ) (cs : Choice) : Type 0 where
   pub few : opened cs ≤ lim.limit

@@ -1,25 +1,22 @@
 -- Two halves in a room, and the next choice among them. Assumes nothing: these are definitions.
 --   room_for     how many entries the halves of n pans take
---   Filled       the room holds the front half first, and the back half behind its room
+--   Filled       the entries are those of the front half and of the back half, with no pan heavier than the heaviest
 --   Allowed      a choice by the ways, of at most so many pans, from a place on
 --   Next         the first place from `from` on, below `to`, of an allowed choice; or that there is none
 use Rattle.std.specs.Prelude.{◌≡◌, ℕ, ◌+◌, ◌-◌, ◌/◌, ◌^◌, ◌<◌, ◌≤◌, true, List, length, take, drop, Some, None, Option, slice_index}
 use Rattle.choices.specs.Choice.{Choice, opened}
-use Rattle.halves.specs.Place.{by_ways, place}
+use Rattle.places.specs.Place.{by_ways, place}
 use Rattle.halves.specs.Half.{Half}
-use Rattle.halves.specs.declared.way.Way.{Way}
+use Rattle.places.specs.declared.way.Way.{Way}
 use Rattle.halves.specs.declared.filled.Halves.{Halves}
 
 abbrev pub room_for : ℕ → ℕ
 room_for n = 2 ^ (n / 2) + 2 ^ (n - n / 2)
 
-pub record Filled (ws : List ℕ) (vs : List Way) (room : List ℕ) (s : Halves) : Type 0 where
-  pub enough : room_for (length ws) ≤ length room
-  pub front_few : s.front ≤ 2 ^ (length ws / 2)
-  pub back_few : s.back ≤ 2 ^ (length ws - length ws / 2)
+pub record Filled (ws : List ℕ) (vs : List Way) (s : Halves) : Type 0 where
   pub heavy : (i : ℕ) → slice_index ws i ≤ s.bounds.heaviest
-  pub front : Half (length ws - length ws / 2) 0 s.bounds (take (length ws / 2) ws) (take (length ws / 2) vs) room s.front
-  pub back : Half 0 0 s.bounds (drop (length ws / 2) ws) (drop (length ws / 2) vs) (drop (2 ^ (length ws / 2)) room) s.back
+  pub front : Half (length ws - length ws / 2) 0 s.bounds (take (length ws / 2) ws) (take (length ws / 2) vs) s.lists.front.now (length s.lists.front.now)
+  pub back : Half 0 0 s.bounds (drop (length ws / 2) ws) (drop (length ws / 2) vs) s.lists.back.now (length s.lists.back.now)
 
 pub record Allowed (limit : ℕ) (ws : List ℕ) (vs : List Way) (from : ℕ) (cs : Choice) : Type 0 where
   pub ways : by_ways vs cs ≡ true

@@ -1,10 +1,10 @@
-// How far the two halves fill a room.
+// Two halves that fill a room.
 use crate::bounds::Bounds;
+use sweeps::Lists;
 
-// So many entries of the front half, which stands first, and of the back half; none is left out that the bounds allow.
+// The entries of the front half and of the back half; none is left out that the bounds allow.
 #[derive(Clone, Copy)]
-pub struct Halves {
-    pub front: usize,
-    pub back: usize,
+pub struct Halves<'a> {
+    pub lists: Lists<'a>,
     pub bounds: Bounds,
 }

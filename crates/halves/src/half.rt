@@ -1,36 +1,26 @@
-// A half of the pans: the places of all its choices in order.
-ghost use Rattle.std.specs.Prelude.{◌≡◌, ℕ, ◌+◌, ◌*◌, ◌^◌, ◌<◌, ◌≤◌, length, slice_index};
+// A half of the pans: the places of all its choices in order, but for what is not worth keeping.
+ghost use Rattle.std.specs.Prelude.{ℕ, ◌+◌, ◌^◌, ◌≤◌, length, slice_index};
 ghost use Rattle.halves.specs.Half.{Half};
 
 use crate::bounds::Bounds;
-use crate::grow::grow;
 use crate::sieve::thin;
-use crate::way::Way;
+use growth::{Pan, all_shut, grow};
+use places::Pans;
 
-// What the place gains where a pan is opened that was shut, with so many pans behind it.
-fn gain(weight: u32, behind: usize) -> u64
-    requires light { weight ≤ 1000000 }
-    requires few { behind < 24 }
-    ensures { result + 2 ^ behind ≡ weight * 2 ^ 29 + 2 ^ 24 }
+// Fills the room from the last pan to the first, with so many pans behind the half; gives the entries.
+pub fn half<'a>(pans: Pans, behind: usize, bounds: Bounds, es: &'a mut [u64]) -> &'a [u64]
+    requires few { behind + length pans.weights.now ≤ 24 }
+    requires heavy { (i : ℕ) → slice_index pans.weights.now i ≤ bounds.heaviest }
+    requires room { 2 ^ length pans.weights.now ≤ length es.old }
+    ensures { Half behind 0 bounds pans.entry.weights.now pans.entry.ways.now result.now (length result.now) }
 {
-    (u64::from(weight) << 29) + (1 << 24) - (1 << behind)
-}
-
-// Fills the entries from the last pan to the first, with so many pans behind the half; gives how many there are.
-pub fn half(weights: &[u32], ways: &[Way], behind: usize, bounds: Bounds, es: &mut [u64]) -> usize
-    requires paired { length ways.now ≡ length weights.now }
-    requires few { behind + length weights.now ≤ 24 }
-    requires heavy { (i : ℕ) → slice_index weights.now i ≤ bounds.heaviest }
-    requires room { 2 ^ length weights.now ≤ length es.old }
-    ensures { Half behind 0 bounds weights.now ways.now es.new result }
-{
-    let pans = weights.len();
-    es[0] = (1 << (behind + pans)) - (1 << behind);
+    let count = pans.weights.len();
+    es[0] = all_shut(count, behind);
     let mut n = 1;
-    for k in (0..pans).rev() {
-        let gained = gain(weights[k], behind + (pans - 1 - k));
-        let grown = grow(es, n, ways[k], gained, bounds.to);
-        n = thin(es, grown, (pans - k) as u64, bounds);
+    for k in (0..count).rev() {
+        let pan = Pan::of(pans, k, behind + (count - 1 - k));
+        let grown = grow(es, n, pan, bounds.to);
+        n = thin(&mut es[..grown], (count - k) as u64, bounds);
     }
-    n
+    &es[..n]
 }

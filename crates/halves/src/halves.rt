@@ -5,8 +5,8 @@ ghost use Rattle.halves.specs.Next.{Filled, Next, room_for};
 use crate::bounds::Bounds;
 use crate::filled::Halves;
 use crate::half::half;
-use crate::pans::Pans;
-use crate::sweep::least;
+use places::Pans;
+use sweeps::{Lists, least};
 
 // Room for 24 pans, which is the most that a ring has.
 pub const ROOM: usize = 8192;
@@ -49,9 +49,9 @@ fn heaviest(weights: &[u32]) -> u32
 }
 
 // Fills both halves with what opens at most `limit` pans, weighs `least` or more and lies below `to`.
-pub fn fill(pans: Pans, limit: u32, least: u32, to: u64, room: &mut [u64]) -> Halves
+pub fn fill<'a>(pans: Pans, limit: u32, least: u32, to: u64, room: &'a mut [u64]) -> Halves<'a>
     requires { room_for (length pans.weights.now) ≤ length room.old }
-    ensures filled { Filled pans.entry.weights.now pans.entry.ways.now room.new result }
+    ensures filled { Filled pans.entry.weights.now pans.entry.ways.now result }
     ensures limit { result.bounds.limit ≡ limit }
     ensures least { result.bounds.least ≡ least }
     ensures to { result.bounds.to ≡ to }
@@ -63,41 +63,21 @@ pub fn fill(pans: Pans, limit: u32, least: u32, to: u64, room: &mut [u64]) -> Ha
         to,
     };
     let count = pans.weights.len();
-    let mid = count / 2;
-    let (front_weights, back_weights) = pans.weights.split_at(mid);
-    let (front_ways, back_ways) = pans.ways.split_at(mid);
-    let at = cut(count);
-    let front = half(
-        front_weights,
-        front_ways,
-        count - mid,
-        bounds,
-        &mut room[0..at],
-    );
-    let back = half(back_weights, back_ways, 0, bounds, &mut room[at..]);
-    Halves {
-        front,
-        back,
-        bounds,
-    }
+    let (first, last) = pans.split_at(count / 2);
+    let (front_room, back_room) = room.split_at_mut(cut(count));
+    let front = half(first, last.weights.len(), bounds, front_room);
+    let back = half(last, 0, bounds, back_room);
+    let lists = Lists { front, back };
+    Halves { lists, bounds }
 }
 
 // The first place from `from` on of a choice that is allowed; the halves hold none that weighs less than their least.
-pub fn next(pans: Pans, halves: Halves, room: &[u64], from: u64) -> Option<u64>
-    requires filled { Filled pans.weights.now pans.ways.now room.now halves }
+pub fn next(pans: Pans, halves: Halves, from: u64) -> Option<u64>
+    requires filled { Filled pans.weights.now pans.ways.now halves }
     requires enough { halves.bounds.least * 2 ^ 29 ≤ from }
-    ensures { Next halves.bounds.limit pans.entry.weights.now pans.entry.ways.now from halves.bounds.to result }
+    ensures { Next halves.entry.bounds.limit pans.entry.weights.now pans.entry.ways.now from halves.entry.bounds.to result }
 {
-    let at = cut(pans.weights.len());
-    let front = halves.front;
-    let end = at + halves.back;
     let to = halves.bounds.to;
-    let found = least(
-        &room[0..front],
-        &room[at..end],
-        halves.bounds.limit,
-        from,
-        to,
-    );
-    if found < to { Some(found) } else { None }
+    let found = least(&[0], halves.lists, halves.bounds.limit, from, to);
+    (found < to).then_some(found)
 }

@@ -4,19 +4,12 @@
 mod answer;
 mod bounds;
 mod filled;
-mod grow;
 mod half;
 mod halves;
-mod pans;
-mod place;
 mod sieve;
-mod sweep;
-mod way;
 
 pub use answer::best;
 pub use bounds::Bounds;
 pub use filled::Halves;
 pub use halves::{ROOM, fill, full_room, next, room_for};
-pub use pans::Pans;
-pub use place::{bag_in, pans_in, weight_in};
-pub use way::Way;
+pub use places::{Pans, Way, bag_in, pans_in, weight_in};

@@ -1,11 +1,11 @@
 // What is not worth keeping is sieved out of a half.
 ghost use Rattle.std.specs.Prelude.{◌≡◌, ℕ, ◌+◌, ◌*◌, ◌/◌, ◌^◌, ◌<◌, ◌≤◌, ◌&&◌, length, nat_le, slice_index};
-ghost use Rattle.halves.specs.Entries.{Rises};
+ghost use Rattle.growth.specs.Entries.{Rises};
 ghost use Rattle.halves.specs.Half.{Kept, Sieved};
-ghost use Rattle.halves.specs.Place.{pans_in};
+ghost use Rattle.places.specs.Place.{pans_in};
 
 use crate::bounds::Bounds;
-use crate::place::{pans_in, weight_in};
+use places::{pans_in, weight_in};
 
 // Whether an entry opens few enough pans and can still reach the least weight.
 fn worth(bounds: Bounds, entry: u64) -> bool
@@ -16,15 +16,15 @@ fn worth(bounds: Bounds, entry: u64) -> bool
     (opened <= bounds.limit) & (wanted <= weight_in(entry) + bounds.limit * bounds.heaviest)
 }
 
-// Moves what is kept of the first `n` entries to the front; gives how many there are.
-fn sieve(es: &mut [u64], n: usize, bounds: Bounds) -> usize
-    requires room { n ≤ length es.old }
-    requires rises { Rises es.old n }
-    ensures sieved { Sieved bounds es.old es.new n result }
+// Moves what is kept of the entries to the front; gives how many there are. It reads and writes one slice, which no method does,
+// so it goes by index.
+fn sieve(es: &mut [u64], bounds: Bounds) -> usize
+    requires { Rises es.old (length es.old) }
+    ensures sieved { Sieved bounds es.old es.new (length es.old) result }
     ensures lean { (q : ℕ) → q < result → Kept bounds (slice_index es.new q) }
 {
     let mut left = 0;
-    for i in 0..n {
+    for i in 0..es.len() {
         let entry = es[i];
         es[left] = entry;
         if worth(bounds, entry) {
@@ -48,15 +48,14 @@ fn pays(bounds: Bounds, pans: u64) -> bool
 }
 
 // Sieves a half of so many pans where that is likely to pay; gives how many entries are left.
-pub fn thin(es: &mut [u64], n: usize, pans: u64, bounds: Bounds) -> usize
-    requires room { n ≤ length es.old }
-    requires rises { Rises es.old n }
+pub fn thin(es: &mut [u64], pans: u64, bounds: Bounds) -> usize
+    requires rises { Rises es.old (length es.old) }
     requires few { pans ≤ 24 }
-    ensures { Sieved bounds es.old es.new n result }
+    ensures { Sieved bounds es.old es.new (length es.old) result }
 {
     if pays(bounds, pans) {
-        sieve(es, n, bounds)
+        sieve(es, bounds)
     } else {
-        n
+        es.len()
     }
 }

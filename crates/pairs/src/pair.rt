@@ -1,34 +1,32 @@
-// Two parts of the pans grown side by side in one room: neither merge waits for the other.
-ghost use Rattle.std.specs.Prelude.{◌≡◌, ℕ, ◌+◌, ◌^◌, ◌<◌, ◌≤◌, length, drop, slice_index};
-ghost use Rattle.growth.specs.Entries.{Grown, Merged, Rises};
+// Two parts of the pans grown side by side, each in a room of its own: neither merge waits for the other.
+ghost use Rattle.std.specs.Prelude.{◌≡◌, ℕ, ◌+◌, ◌^◌, ◌≤◌, length};
+ghost use Rattle.growth.specs.Entries.{Grown, Merged, Sorted};
 ghost use Rattle.growth.specs.Part.{Part};
 
 use crate::sizes::Sizes;
-use growth::{Merge, Pan, above, gain, grow, merge, openable};
+use growth::{Merge, Pan, above, all_shut, grow, merge, openable};
 use places::Pans;
 
-// Merges the entries at the front, and those from the cut on.
-fn merge_both(es: &mut [u64], front: Merge, cut: usize, back: Merge)
-    requires front_room { front.kept + front.added ≤ cut }
-    requires back_room { cut + (back.kept + back.added) ≤ length es.old }
-    requires front_rises { Rises es.old front.kept }
-    requires back_rises { Rises (drop cut es.old) back.kept }
-    requires front_low { (p : ℕ) → p < front.kept → slice_index es.old p < 2 ^ 62 }
-    requires back_low { (p : ℕ) → p < back.kept → slice_index (drop cut es.old) p < 2 ^ 62 }
-    ensures front { Merged es.old es.new front.kept front.added front.gain }
-    ensures back { Merged (drop cut es.old) (drop cut es.new) back.kept back.added back.gain }
+// Merges the entries of both parts, turn by turn as `merge` does, so it is a `while` too.
+fn merge_both(front: &mut [u64], first: Merge, back: &mut [u64], second: Merge)
+    requires front_room { first.kept + first.added ≤ length front.old }
+    requires back_room { second.kept + second.added ≤ length back.old }
+    requires front_sorted { Sorted front.old first.kept }
+    requires back_sorted { Sorted back.old second.kept }
+    ensures front { Merged front.old front.new first.kept first.added first.gain }
+    ensures back { Merged back.old back.new second.kept second.added second.gain }
 {
-    let mut i = front.kept;
-    let mut j = front.added;
-    let mut p = back.kept;
-    let mut q = back.added;
+    let mut i = first.kept;
+    let mut j = first.added;
+    let mut p = second.kept;
+    let mut q = second.added;
     while j > 0 && q > 0 {
-        let kept = es[i - 1];
-        let added = es[j - 1] + front.gain;
-        let held = es[cut + (p - 1)];
-        let raised = es[cut + (q - 1)] + back.gain;
-        es[i + j - 1] = kept.max(added);
-        es[cut + (p + q - 1)] = held.max(raised);
+        let kept = front[i - 1];
+        let added = front[j - 1] + first.gain;
+        let held = back[p - 1];
+        let raised = back[q - 1] + second.gain;
+        front[i + j - 1] = kept.max(added);
+        back[p + q - 1] = held.max(raised);
         let keeps = above(kept, added);
         let holds = above(held, raised);
         i -= keeps;
@@ -37,87 +35,92 @@ fn merge_both(es: &mut [u64], front: Merge, cut: usize, back: Merge)
         q -= 1 - holds;
     }
     merge(
-        es,
+        front,
         Merge {
             kept: i,
             added: j,
-            gain: front.gain,
+            gain: first.gain,
         },
     );
     merge(
-        &mut es[cut..],
+        back,
         Merge {
             kept: p,
             added: q,
-            gain: back.gain,
+            gain: second.gain,
         },
     );
 }
 
-// One pan more in each part; the entries of the back part begin at the cut.
-fn grow_both(es: &mut [u64], sizes: Sizes, cut: usize, front: Pan, back: Pan, to: u64) -> Sizes
-    requires front_room { sizes.front + sizes.front ≤ cut }
-    requires back_room { cut + (sizes.back + sizes.back) ≤ length es.old }
-    requires front_rises { Rises es.old sizes.front }
-    requires back_rises { Rises (drop cut es.old) sizes.back }
-    requires front_low { (p : ℕ) → p < sizes.front → slice_index es.old p < 2 ^ 62 }
-    requires back_low { (p : ℕ) → p < sizes.back → slice_index (drop cut es.old) p < 2 ^ 62 }
-    ensures front { Grown to front.way front.gain es.old es.new sizes.front result.front }
-    ensures back { Grown to back.way back.gain (drop cut es.old) (drop cut es.new) sizes.back result.back }
+// One pan more in each part.
+fn grow_both(
+    front: &mut [u64],
+    first: Pan,
+    back: &mut [u64],
+    second: Pan,
+    sizes: Sizes,
+    to: u64,
+) -> Sizes
+    requires front_room { sizes.front + sizes.front ≤ length front.old }
+    requires back_room { sizes.back + sizes.back ≤ length back.old }
+    requires front_sorted { Sorted front.old sizes.front }
+    requires back_sorted { Sorted back.old sizes.back }
+    ensures front { Grown to first.way first.gain front.old front.new sizes.front result.front }
+    ensures back { Grown to second.way second.gain back.old back.new sizes.back result.back }
 {
-    if front.way.stays && back.way.stays {
-        let added = openable(es, sizes.front, front, to);
-        let raised = openable(&es[cut..], sizes.back, back, to);
-        let first = Merge {
+    if first.way.stays && second.way.stays {
+        let added = openable(&front[..sizes.front], first, to);
+        let raised = openable(&back[..sizes.back], second, to);
+        let one = Merge {
             kept: sizes.front,
             added,
-            gain: front.gain,
+            gain: first.gain,
         };
-        let second = Merge {
+        let other = Merge {
             kept: sizes.back,
             added: raised,
-            gain: back.gain,
+            gain: second.gain,
         };
-        merge_both(es, first, cut, second);
+        merge_both(front, one, back, other);
         Sizes {
             front: sizes.front + added,
             back: sizes.back + raised,
         }
     } else {
-        let first = grow(es, sizes.front, front, to);
-        let second = grow(&mut es[cut..], sizes.back, back, to);
+        let grown = grow(front, sizes.front, first, to);
+        let more = grow(back, sizes.back, second, to);
         Sizes {
-            front: first,
-            back: second,
+            front: grown,
+            back: more,
         }
     }
 }
 
-// Fills the entries of two parts of as many pans each, the front part's pans before those of the back part; the entries
-// of the back part begin at the cut. Gives how many there are.
-pub fn both(front: Pans, back: Pans, to: u64, cut: usize, es: &mut [u64]) -> Sizes
+// Fills the rooms of two parts of as many pans each, the front part's pans before those of the back part; gives how many
+// entries there are.
+pub fn both(
+    front: Pans,
+    back: Pans,
+    to: u64,
+    front_room: &mut [u64],
+    back_room: &mut [u64],
+) -> Sizes
     requires same { length back.weights.now ≡ length front.weights.now }
     requires few { length front.weights.now + length front.weights.now ≤ 24 }
-    requires cut { cut ≡ 2 ^ length front.weights.now }
-    requires room { cut + cut ≤ length es.old }
-    ensures front { Part (length front.entry.weights.now) 0 to front.entry.weights.now front.entry.ways.now es.new result.front }
-    ensures back { Part 0 0 to back.entry.weights.now back.entry.ways.now (drop cut es.new) result.back }
+    requires front_room { 2 ^ length front.weights.now ≤ length front_room.old }
+    requires back_room { 2 ^ length front.weights.now ≤ length back_room.old }
+    ensures front { Part (length front.entry.weights.now) 0 to front.entry.weights.now front.entry.ways.now front_room.new result.front }
+    ensures back { Part 0 0 to back.entry.weights.now back.entry.ways.now back_room.new result.back }
 {
     let count = front.weights.len();
-    es[0] = (1 << (count + count)) - (1 << count);
-    es[cut] = (1 << count) - 1;
+    front_room[0] = all_shut(count, count);
+    back_room[0] = all_shut(count, 0);
     let mut sizes = Sizes { front: 1, back: 1 };
     for k in (0..count).rev() {
         let after = count - 1 - k;
-        let first = Pan {
-            way: front.ways[k],
-            gain: gain(front.weights[k], count + after),
-        };
-        let second = Pan {
-            way: back.ways[k],
-            gain: gain(back.weights[k], after),
-        };
-        sizes = grow_both(es, sizes, cut, first, second, to);
+        let first = Pan::of(front, k, count + after);
+        let second = Pan::of(back, k, after);
+        sizes = grow_both(front_room, first, back_room, second, sizes, to);
     }
     sizes
 }

@@ -1,7 +1,7 @@
 -- From a place back to the choice, and from a rule to ways.
-use Rattle.std.proofs.Common.{◌≡◌, ℕ, suc, ◌+◌, ◌-◌, ◌*◌, ◌%◌, ◌^◌, ◌<◌, ◌≤◌, Bool, true, false, ◌&&◌, ltb, leb, List, [], ◌∷◌, ◌++◌, length, get_or, take, set, sym, refl, ap, ◌∙◌, mul_assoc, arith}
+use Rattle.std.proofs.Common.{◌≡◌, ℕ, zero, suc, ◌+◌, ◌-◌, ◌*◌, ◌%◌, ◌^◌, ◌<◌, ◌≤◌, Bool, true, false, ◌&&◌, ltb, leb, List, [], ◌∷◌, length, get_or, take, sym, refl, ap, ◌∙◌, mul_assoc, arith}
 use Rattle.std.proofs.lemmas.Nat.{pow-add, mod_low}
-use Rattle.std.proofs.lemmas.List.{length-take, take_more, take_more_set}
+use Rattle.std.proofs.lemmas.List.{length-take-le, get_or-take, same_lists}
 use Rattle.choices.specs.Choice.{Choice, weight_of, opened, none_empty, keeps_old}
 use Rattle.choices.specs.Numbered.{choice_of, number_of}
 use Rattle.choices.proofs.Numbers.{code, choice_of_code}
@@ -24,22 +24,6 @@ lowest ws cs n few e f =
 pub opened_pans : (ws : List ℕ) (cs : Choice) (n : ℕ) → n ≤ 24 → length ws ≡ n → length cs ≡ n → number_of (choice_of n (2 ^ n - 1 - place 0 ws cs % 2 ^ n)) ≡ number_of cs
 opened_pans ws cs n few e f =
     rw (lowest ws cs n few e f) (ap number_of (ap (λ (m : ℕ). choice_of m (code cs)) (sym f) ∙ choice_of_code cs))
-
--- one pan's way more
-pub ways_push : (old : ℕ) (ws as' : List ℕ) (w a : ℕ) → length as' ≡ length ws → ways old (ws ++ w ∷ []) (as' ++ a ∷ []) ≡ ways old ws as' ++ way old w a ∷ []
-ways_push old [] [] w a e = refl
-ways_push old [] (b ∷ as') w a e = absurd (omega arith)
-ways_push old (u ∷ ws) [] w a e = absurd (omega arith)
-ways_push old (u ∷ ws) (b ∷ as') w a e = ap (λ (vs : List Way). way old u b ∷ vs) (ways_push old ws as' w a (omega arith))
-
-pub ways_more :
-    (old : ℕ) (ws as' : List ℕ) (made : List Way) (i : ℕ) → length as' ≡ length ws → i < length ws → i < length made →
-    take i made ≡ ways old (take i ws) (take i as') →
-    take (i + 1) (set made i (way old (get_or ws i 0) (get_or as' i 0))) ≡ ways old (take (i + 1) ws) (take (i + 1) as')
-ways_more old ws as' made i e l room h =
-    let k : i < length as' = omega arith in
-    let p : length (take i as') ≡ length (take i ws) = omega (arith, length-take i as', length-take i ws) in
-    rw (take_more_set made i (way old (get_or ws i 0) (get_or as' i 0)) room, h, take_more ws i 0 l, take_more as' i 0 k) (sym (ways_push old (take i ws) (take i as') (get_or ws i 0) (get_or as' i 0) p))
 
 -- a choice by a ring's ways opens no empty pan and every old one
 pub by_ring : (old : ℕ) (ws as' : List ℕ) (cs : Choice) → length as' ≡ length ws → length cs ≡ length ws → by_ways (ways old ws as') cs ≡ (none_empty ws cs && keeps_old old as' cs)
@@ -64,3 +48,18 @@ pub length_ways : (old : ℕ) (ws as' : List ℕ) → length as' ≡ length ws �
 length_ways old [] as' e = refl
 length_ways old (w ∷ ws) [] e = absurd (omega arith)
 length_ways old (w ∷ ws) (a ∷ as') e = ap suc (length_ways old ws as' (omega arith))
+
+pub ways_at : (old : ℕ) (ws as' : List ℕ) (i : ℕ) (d : Way) → length as' ≡ length ws → i < length ws → get_or (ways old ws as') i d ≡ way old (get_or ws i 0) (get_or as' i 0)
+ways_at old [] as' i d e l = absurd (omega arith)
+ways_at old (w ∷ ws) [] i d e l = absurd (omega arith)
+ways_at old (w ∷ ws) (a ∷ as') zero d e l = refl
+ways_at old (w ∷ ws) (a ∷ as') (suc i) d e l = ways_at old ws as' i d (omega arith) (omega arith)
+
+-- ways that were made one by one
+pub ways_made :
+    (old : ℕ) (ws as' : List ℕ) (made : List Way) → length as' ≡ length ws → length ws ≤ length made →
+    ((k : ℕ) (d : Way) → k < length ws → get_or made k d ≡ way old (get_or ws k 0) (get_or as' k 0)) → take (length ws) made ≡ ways old ws as'
+ways_made old ws as' made e room each =
+    let long : length (take (length ws) made) ≡ length ws = length-take-le (length ws) made room in
+    same_lists _ _ (long ∙ sym (length_ways old ws as' e))
+    (λ k d l. get_or-take (length ws) made k d (omega arith) ∙ (each k d (omega arith) ∙ sym (ways_at old ws as' k d e (omega arith))))

@@ -1,5 +1,5 @@
 // The pans that a choice is made of, with what may be done with each.
-ghost use Rattle.std.specs.Prelude.{◌≡◌, ℕ, ◌≤◌, length, slice_index};
+ghost use Rattle.std.specs.Prelude.{◌≡◌, ℕ, ◌≤◌, length, take, drop, slice_index};
 
 use crate::way::Way;
 
@@ -11,4 +11,27 @@ pub struct Pans<'a> {
     ghost few: { length weights.now ≤ 24 },
     ghost paired: { length ways.now ≡ length weights.now },
     ghost light: { (i : ℕ) → slice_index weights.now i ≤ 1000000 },
+}
+
+impl<'a> Pans<'a> {
+    // The pans before `mid`, and those from it on.
+    pub fn split_at(self, mid: usize) -> (Pans<'a>, Pans<'a>)
+        requires { mid ≤ length self.weights.now }
+        ensures front_weights { result.0.weights.now ≡ take mid self.entry.weights.now }
+        ensures front_ways { result.0.ways.now ≡ take mid self.entry.ways.now }
+        ensures back_weights { result.1.weights.now ≡ drop mid self.entry.weights.now }
+        ensures back_ways { result.1.ways.now ≡ drop mid self.entry.ways.now }
+    {
+        let (front_weights, back_weights) = self.weights.split_at(mid);
+        let (front_ways, back_ways) = self.ways.split_at(mid);
+        let front = Pans {
+            weights: front_weights,
+            ways: front_ways,
+        };
+        let back = Pans {
+            weights: back_weights,
+            ways: back_ways,
+        };
+        (front, back)
+    }
 }

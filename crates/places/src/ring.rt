@@ -1,23 +1,31 @@
 // What may be done with the pans of a ring.
-ghost use Rattle.places.specs.Ring.{ways as ways_by};
-ghost use Rattle.std.specs.Prelude.{◌≡◌, length, take};
+ghost use Rattle.places.specs.Ring.{way as way_by, ways as ways_by};
+ghost use Rattle.std.specs.Prelude.{◌≡◌, ◌<◌, length, slice_index, take};
 
 use crate::way::Way;
 use choices::Ring;
+use std::array;
+
+// What may be done with the pan of that number. With none of that number nothing may be done.
+fn way(ring: Ring, pan: usize) -> Way
+    ensures { pan < length ring.entry.weights.now → result ≡ way_by ring.entry.rule.age (slice_index ring.entry.weights.now pan) (slice_index ring.entry.ages.now pan) }
+{
+    if pan < ring.weights.len() {
+        Way {
+            opens: ring.weights[pan] >= 1,
+            stays: ring.ages[pan] < ring.rule.age,
+        }
+    } else {
+        Way {
+            opens: false,
+            stays: false,
+        }
+    }
+}
 
 // A pan may be opened where something lies in it, and may stay shut while it has not waited for too many bags.
 pub fn ways(ring: Ring) -> [Way; 24]
     ensures { take (length ring.entry.weights.now) result ≡ ways_by ring.entry.rule.age ring.entry.weights.now ring.entry.ages.now }
 {
-    let mut made = [Way {
-        opens: false,
-        stays: false,
-    }; 24];
-    for i in 0..ring.weights.len() {
-        made[i] = Way {
-            opens: ring.weights[i] >= 1,
-            stays: ring.ages[i] < ring.rule.age,
-        };
-    }
-    made
+    array::from_fn(|pan| way(ring, pan))
 }

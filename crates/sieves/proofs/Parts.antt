@@ -1,7 +1,6 @@
 -- A choice of all pans is a choice of each part of them: what is opened, what it weighs and its place come together.
-use Rattle.std.proofs.Common.{◌≡◌, ℕ, zero, suc, ◌+◌, ◌-◌, ◌*◌, ◌^◌, ◌≤◌, List, [], ◌∷◌, ◌++◌, length, get_or, take, drop, sym, ap, ◌∙◌, ⊎_elim, arith, pow_mono}
-use Rattle.std.proofs.lemmas.List.{length-take, length-drop, length-append, drop-drop, get_or-take, get_or-drop, get_or_past}
-use Rattle.std.proofs.lemmas.Bool.{cases_lt}
+use Rattle.std.proofs.Common.{◌≡◌, ℕ, zero, suc, ◌+◌, ◌-◌, ◌*◌, ◌^◌, ◌≤◌, List, [], ◌∷◌, ◌++◌, length, get_or, take, drop, sym, ap, ◌∙◌, arith, pow_mono}
+use Rattle.std.proofs.lemmas.List.{length-take, length-drop, length-append, drop-drop}
 use Rattle.choices.specs.Choice.{Choice, weight_of, opened}
 use Rattle.places.specs.Place.{place, pans_in}
 use Rattle.places.proofs.Places.{in_place}
@@ -31,14 +30,6 @@ weight_join (u ∷ us) ws (c ∷ cs) ds e = omega (arith, weight_join us ws cs d
 pub opened_join : (cs ds : Choice) → opened (cs ++ ds) ≡ opened cs + opened ds
 opened_join [] ds = omega arith
 opened_join (c ∷ cs) ds = omega (arith, opened_join cs ds)
-
--- what no pan of the ring passes no pan of a part passes
-pub light_take : (m n : ℕ) (ws : List ℕ) → ((i : ℕ) → get_or ws i 0 ≤ m) → (i : ℕ) → get_or (take n ws) i 0 ≤ m
-light_take m n ws h i =
-    ⊎_elim (λ l. rw (get_or-take n ws i 0 l) (h i)) (λ l. omega (arith, get_or_past (take n ws) i 0 (omega (arith, length-take n ws)))) (cases_lt i n)
-
-pub light_drop : (m n : ℕ) (ws : List ℕ) → ((i : ℕ) → get_or ws i 0 ≤ m) → (i : ℕ) → get_or (drop n ws) i 0 ≤ m
-light_drop m n ws h i = rw (get_or-drop n ws i 0) (h (n + i))
 
 -- the others weigh at most as much as so many of them can
 pub short_from :

@@ -4,7 +4,9 @@
 mod bounds;
 mod most;
 mod sieve;
+mod span;
 mod worth;
 
 pub use bounds::Bounds;
 pub use sieve::thin;
+pub use span::Span;

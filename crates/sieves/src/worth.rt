@@ -1,34 +1,34 @@
 // Which entries of a part of the pans are worth keeping.
-ghost use Rattle.std.specs.Prelude.{◌≡◌, ℕ, ◌+◌, ◌-◌, ◌*◌, ◌^◌, ◌<◌, ◌≤◌, length, slice_index};
+ghost use Rattle.std.specs.Prelude.{◌≡◌, ℕ, ◌-◌, ◌*◌, ◌^◌, ◌<◌, ◌≤◌, slice_index};
 ghost use Rattle.sieves.specs.Sieve.{Short};
 
 use crate::bounds::Bounds;
 use crate::most::with_pans;
-use places::Pans;
+use crate::span::Span;
+use std::array;
 
-// By how many pans an entry opens, the least place that is enough with the most that may still be opened beside it.
-fn shorts(most: &[u64], bounds: Bounds) -> [u64; 32]
-    requires long { length most.now ≡ 25 }
-    requires few { bounds.limit ≤ 24 }
-    ensures within { (c : ℕ) → c ≤ bounds.limit → slice_index result c ≡ (bounds.least - slice_index most.now (bounds.limit - c)) * 2 ^ 29 }
-    ensures beyond { (c : ℕ) → bounds.limit < c → c < 32 → slice_index result c ≡ 2 ^ 64 - 1 }
+// Where so many pans are opened, the least place that is enough with the most that may still be opened beside them.
+fn short(most: &[u64; 25], bounds: Bounds, opened: usize) -> u64
+    requires { bounds.limit ≤ 24 }
+    ensures within { opened ≤ bounds.limit → result ≡ (bounds.least - slice_index most.now (bounds.limit - opened)) * 2 ^ 29 }
+    ensures beyond { bounds.limit < opened → result ≡ 2 ^ 64 - 1 }
 {
-    let mut made = [u64::MAX; 32];
     let limit = bounds.limit as usize;
-    for c in 0..limit + 1 {
-        made[c] = bounds.least.saturating_sub(most[limit - c]) << 29;
+    if opened <= limit {
+        bounds.least.saturating_sub(most[limit - opened]) << 29
+    } else {
+        u64::MAX
     }
-    made
 }
 
-// The same for so many pans behind the first `skip`, by what the others weigh.
-pub fn worth(pans: Pans, skip: usize, len: usize, bounds: Bounds) -> [u64; 32]
-    requires within { skip + len ≤ length pans.weights.now }
-    requires few { bounds.limit ≤ 24 }
-    ensures { Short bounds pans.entry.weights.now skip len result }
+// The same by how many pans an entry of a span of them opens, where the others may be opened beside it.
+pub fn worth(span: Span, bounds: Bounds) -> [u64; 32]
+    requires { bounds.limit ≤ 24 }
+    ensures { Short bounds span.entry.pans.weights.now span.entry.skip span.entry.len result }
 {
+    let weights = span.pans.weights;
     let mut most = [0; 25];
-    with_pans(&mut most, &pans.weights[skip + len..]);
-    with_pans(&mut most, &pans.weights[0..skip]);
-    shorts(&most, bounds)
+    with_pans(&mut most, &weights[span.skip + span.len..]);
+    with_pans(&mut most, &weights[..span.skip]);
+    array::from_fn(|opened| short(&most, bounds, opened))
 }

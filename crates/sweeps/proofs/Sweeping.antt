@@ -1,6 +1,6 @@
 -- What sweeps find together: pair by pair, count by count, top by top and weight by weight.
-use Rattle.std.proofs.Common.{◌≡◌, ℕ, ◌+◌, ◌-◌, ◌*◌, ◌/◌, ◌^◌, ◌<◌, ◌≤◌, min, ◌⊎◌, List, [], ◌∷◌, length, get_or, inl, inr, ⊎_elim, arith}
-use Rattle.std.proofs.lemmas.Bool.{cases_lt, cases_eq}
+use Rattle.std.proofs.Common.{◌≡◌, ℕ, ◌+◌, ◌-◌, ◌*◌, ◌/◌, ◌^◌, ◌<◌, ◌≤◌, min, ◌⊎◌, List, length, get_or, inl, inr, ⊎_elim, arith}
+use Rattle.std.proofs.lemmas.Bool.{cases_lt}
 use Rattle.places.specs.Place.{pans_in}
 use Rattle.sweeps.specs.Sweep.{Any, Apart, Few, LeastOf, LeastSum, Meets, Pair, Together, Triple, Whatever}
 use Rattle.sweeps.specs.Lane.{Fresh, Strode}
@@ -38,35 +38,11 @@ counted_more limit k fs bs from to x y h a b =
     (λ u v o. (omega (arith, o.0), o.1))
     (λ u v o. (omega (arith, o.0), omega (arith, o.0, o.1)))
 
--- what is right for one predicate is for another that allows the same pairs
-pub least_same :
-    (one ok : ℕ → ℕ → Type 0) (fs bs : List ℕ) (from to x : ℕ) → LeastSum one fs bs from to x → ((a b : ℕ) → ok a b → one a b) → ((a b : ℕ) → one a b → ok a b) → LeastSum ok fs bs from to x
-least_same one ok fs bs from to x h less more =
-    record {
-      high = h.high;
-      least = λ p q a b o l. h.least p q a b (less _ _ o) l;
-      found = λ l. let g = h.found l in record { p = g.p; q = g.q; front = g.front; back = g.back; right = more _ _ g.right; enough = g.enough; adds = g.adds };
-    }
-
--- a top that opens too many is beside nothing
-pub least_none : (ok : ℕ → ℕ → Type 0) (fs bs : List ℕ) (from to : ℕ) → ((a b : ℕ) → ok a b → ⊥) → LeastSum ok fs bs from to to
-least_none ok fs bs from to never = record { high = omega arith; least = λ p q a b o l. absurd (never _ _ o); found = λ l. absurd (omega arith) }
-
 -- what a sweep found that began for a top
 pub least_fresh :
     (fs bs : List ℕ) (top front from to : ℕ) (x y : Lane) (k r : ℕ) → Fresh top front from to x → Strode fs bs x y k → LeastSum Any fs bs y.from y.to r →
     LeastSum Any fs bs (from - top) (to - top) r
 least_fresh fs bs top front from to x y k r is h l = rw (h.from, h.to, is) at l
-
--- one of four
-pub least_four :
-    (ts fs bs : List ℕ) (from to w x y z : ℕ) → length ts ≤ 4 → LeastSum Any fs bs (from - get_or ts 0 0) (to - get_or ts 0 0) w →
-    (1 < length ts → LeastSum Any fs bs (from - get_or ts 1 0) (to - get_or ts 1 0) x) →
-    (2 < length ts → LeastSum Any fs bs (from - get_or ts 2 0) (to - get_or ts 2 0) y) →
-    (3 < length ts → LeastSum Any fs bs (from - get_or ts 3 0) (to - get_or ts 3 0) z) →
-    (t : ℕ) → t < length ts → LeastSum Any fs bs (from - get_or ts t 0) (to - get_or ts t 0) (get_or (w ∷ x ∷ y ∷ z ∷ []) t 0)
-least_four ts fs bs from to w x y z few a b c d t l =
-    ⊎_elim (λ e. rw e a) (λ o. ⊎_elim (λ e. rw e (b (omega arith))) (λ p. ⊎_elim (λ e. rw e (c (omega arith))) (λ q. let e : t ≡ 3 = omega arith in rw e (d (omega arith))) (cases_eq t 2)) (cases_eq t 1)) (cases_eq t 0)
 
 -- one top more, whose sums were sought below z
 pub least_top :
@@ -92,9 +68,6 @@ least_top ok k ts fs bs from to x z y h under g =
     fresh m e =
         let v : Pair (ok (get_or ts k 0)) fs bs (from - get_or ts k 0) y = g.found (omega arith) in
         rw e (record { t = k; p = v.p; q = v.q; top = omega arith; front = v.front; back = v.back; right = v.right; enough = omega (arith, v.enough); adds = omega (arith, v.adds) })
-
-pub least_of_none : (ok : ℕ → ℕ → ℕ → Type 0) (ts fs bs : List ℕ) (from to : ℕ) → LeastOf ok 0 ts fs bs from to to
-least_of_none ok ts fs bs from to = record { high = omega arith; least = λ t p q a b c o l. absurd (omega arith); found = λ l. absurd (omega arith) }
 
 -- every sum within the limit from `from` on lies from `at` on
 pub record Passed (limit : ℕ) (ts fs bs : List ℕ) (from at : ℕ) : Type 0 where

@@ -2,11 +2,11 @@
 --   Swept        what a sweep knows: the sums of all entries that are settled are no less than what it found, or too little
 --   Fresh        a sweep that has not begun, for what is sought together with a top
 --   Strode       a sweep k steps further on
---   Strides      the same of four
-use Rattle.std.specs.Prelude.{◌≡◌, ℕ, ◌+◌, ◌-◌, ◌<◌, ◌≤◌, ◌⊎◌, List, length, slice_index}
+--   Free         a sweep that has k steps left for certain
+--   Strides      four sweeps, each k steps further on
+use Rattle.std.specs.Prelude.{◌≡◌, ℕ, ◌+◌, ◌-◌, ◌<◌, ◌≤◌, ◌⊎◌, List, length, slice_index, slice_index_or}
 use Rattle.sweeps.specs.Sweep.{Any, Pair}
 use Rattle.sweeps.specs.declared.lane.Lane.{Lane}
-use Rattle.sweeps.specs.declared.lanes.Lanes.{Lanes}
 
 pub record Swept (fs bs : List ℕ) (x : Lane) : Type 0 where
   pub behind : x.at ≤ length bs
@@ -26,8 +26,11 @@ pub record Strode (fs bs : List ℕ) (x y : Lane) (k : ℕ) : Type 0 where
   pub steps : y.at + x.left ≡ x.at + y.left + k
   pub swept : Swept fs bs y
 
-pub record Strides (fs bs : List ℕ) (x y : Lanes) (k : ℕ) : Type 0 where
-  pub a : Strode fs bs x.a y.a k
-  pub b : Strode fs bs x.b y.b k
-  pub c : Strode fs bs x.c y.c k
-  pub d : Strode fs bs x.d y.d k
+pub record Free (fs bs : List ℕ) (k : ℕ) (x : Lane) : Type 0 where
+  pub swept : Swept fs bs x
+  pub behind : x.at + k ≤ length bs
+  pub front : k ≤ x.left
+
+pub record Strides (fs bs : List ℕ) (xs ys : List Lane) (k : ℕ) : Type 0 where
+  pub long : length ys ≡ 4
+  pub each : (i : ℕ) (d : Lane) → i < 4 → Strode fs bs (slice_index_or xs i d) (slice_index_or ys i d) k

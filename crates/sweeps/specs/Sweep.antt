@@ -1,5 +1,4 @@
 -- What sweeps over lists of places find. Assumes nothing: these are definitions.
---   Lists        two lists in order, of places that are low enough for their sums to fit
 --   Any          two entries, whatever they open
 --   Meets        an entry of the back list and one of the front list are of the band's counts
 --   Few          two entries open together at most so many pans
@@ -10,16 +9,10 @@
 --   Whatever     a top and two entries, whatever they open
 --   Together     a top and two entries open together at most so many pans
 --   Apart        the counts of a top and of an entry of each list add up in their sum
-use Rattle.std.specs.Prelude.{◌≡◌, ℕ, ◌+◌, ◌^◌, ◌<◌, ◌≤◌, List, length, slice_index, slice_index_or}
+--   ApartPairs   the counts of an entry of each list add up in their sum
+use Rattle.std.specs.Prelude.{◌≡◌, ℕ, ◌+◌, ◌<◌, ◌≤◌, List, length, slice_index, slice_index_or}
 use Rattle.places.specs.Place.{pans_in}
-use Rattle.growth.specs.Entries.{Rises}
 use Rattle.sweeps.specs.declared.band.Band.{Band}
-
-pub record Lists (fs bs : List ℕ) : Type 0 where
-  pub front_rises : Rises fs (length fs)
-  pub back_rises : Rises bs (length bs)
-  pub front_low : (p : ℕ) → p < length fs → slice_index fs p < 2 ^ 62
-  pub back_low : (p : ℕ) → p < length bs → slice_index bs p < 2 ^ 62
 
 abbrev pub Any : ℕ → ℕ → Type 0
 Any a b = Unit {0}
@@ -68,3 +61,6 @@ Together limit e a b = pans_in e + (pans_in a + pans_in b) ≤ limit
 
 abbrev pub Apart : List ℕ → List ℕ → List ℕ → Type 0
 Apart ts fs bs = (t p q : ℕ) → t < length ts → p < length fs → q < length bs → pans_in (slice_index ts t + (slice_index fs p + slice_index bs q)) ≡ pans_in (slice_index ts t) + (pans_in (slice_index bs q) + pans_in (slice_index fs p))
+
+abbrev pub ApartPairs : List ℕ → List ℕ → Type 0
+ApartPairs fs bs = (p q : ℕ) → p < length fs → q < length bs → pans_in (slice_index fs p + slice_index bs q) ≡ pans_in (slice_index bs q) + pans_in (slice_index fs p)

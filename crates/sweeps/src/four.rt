@@ -1,11 +1,13 @@
 // Four sweeps side by side: up the back list and down the front list.
 ghost use Rattle.std.specs.Prelude.{◌≡◌, ℕ, ◌+◌, ◌-◌, ◌<◌, ◌≤◌, ◌⊎◌, length, slice_index};
-ghost use Rattle.sweeps.specs.Lane.{Fresh, Strides, Strode, Swept};
-ghost use Rattle.sweeps.specs.Sweep.{Any, LeastSum, Lists};
+ghost use Rattle.std.specs.List.{All};
+ghost use Rattle.sweeps.specs.Lane.{Free, Fresh, Strides, Strode, Swept};
+ghost use Rattle.sweeps.specs.Sweep.{Any, LeastSum};
 
 use crate::lane::Lane;
-use crate::lanes::Lanes;
+use crate::lists::Lists;
 use growth::above;
+use std::array;
 
 // A sweep that has not begun, for what comes below `to` from `from` on together with the top.
 fn fresh(top: u64, front: usize, from: u64, to: u64) -> Lane
@@ -23,14 +25,13 @@ fn fresh(top: u64, front: usize, from: u64, to: u64) -> Lane
 
 // Looks at one sum more: where it is too little, so are those of the same entry behind with what is left in front; where it
 // is enough, those of the same entry in front with what is left behind are no less.
-fn step(lane: Lane, front: &[u64], back: &[u64]) -> Lane
-    requires lists { Lists front.now back.now }
-    requires swept { Swept front.now back.now lane }
-    requires behind { lane.at < length back.now }
+fn step(lane: Lane, lists: Lists) -> Lane
+    requires swept { Swept lists.front.now lists.back.now lane }
+    requires behind { lane.at < length lists.back.now }
     requires front { 0 < lane.left }
-    ensures { Strode front.now back.now lane result 1 }
+    ensures { Strode lists.entry.front.now lists.entry.back.now lane result 1 }
 {
-    let sum = back[lane.at] + front[lane.left - 1];
+    let sum = lists.back[lane.at] + lists.front[lane.left - 1];
     let short = above(lane.from, sum);
     let found = if sum < lane.from {
         lane.found
@@ -41,7 +42,7 @@ fn step(lane: Lane, front: &[u64], back: &[u64]) -> Lane
         from: lane.from,
         to: lane.to,
         at: lane.at + short,
-        left: lane.left - (1 - short),
+        left: lane.left - 1 + short,
         found,
     }
 }
@@ -56,83 +57,84 @@ fn free(lane: Lane, back: usize) -> usize
 }
 
 // So many steps of all four.
-fn stride(lanes: Lanes, front: &[u64], back: &[u64], steps: usize) -> Lanes
-    requires lists { Lists front.now back.now }
-    requires swept { Strides front.now back.now lanes lanes 0 }
-    requires behind { (lanes.a.at + steps ≤ length back.now) × (lanes.b.at + steps ≤ length back.now) × (lanes.c.at + steps ≤ length back.now) × (lanes.d.at + steps ≤ length back.now) }
-    requires front { (steps ≤ lanes.a.left) × (steps ≤ lanes.b.left) × (steps ≤ lanes.c.left) × (steps ≤ lanes.d.left) }
-    ensures { Strides front.now back.now lanes result steps }
+fn stride(lanes: [Lane; 4], lists: Lists, steps: usize) -> [Lane; 4]
+    requires { All (Free lists.front.now lists.back.now steps) lanes }
+    ensures { Strides lists.entry.front.now lists.entry.back.now lanes result steps }
 {
     let mut run = lanes;
     for _done in 0..steps {
-        run = Lanes {
-            a: step(run.a, front, back),
-            b: step(run.b, front, back),
-            c: step(run.c, front, back),
-            d: step(run.d, front, back),
-        };
+        for lane in &mut run {
+            *lane = step(*lane, lists);
+        }
     }
     run
 }
 
 // How many steps are left for certain to all four.
-fn all_free(lanes: Lanes, back: usize) -> usize
-    requires { (lanes.a.at ≤ back) × (lanes.b.at ≤ back) × (lanes.c.at ≤ back) × (lanes.d.at ≤ back) }
-    ensures behind { (lanes.a.at + result ≤ back) × (lanes.b.at + result ≤ back) × (lanes.c.at + result ≤ back) × (lanes.d.at + result ≤ back) }
-    ensures front { (result ≤ lanes.a.left) × (result ≤ lanes.b.left) × (result ≤ lanes.c.left) × (result ≤ lanes.d.left) }
+fn all_free(lanes: &[Lane; 4], back: usize) -> usize
+    requires { All (λ x. x.at ≤ back) lanes.now }
+    ensures { All (λ x. (x.at + result ≤ back) × (result ≤ x.left)) lanes.now }
 {
-    let two = free(lanes.a, back).min(free(lanes.b, back));
-    two.min(free(lanes.c, back)).min(free(lanes.d, back))
+    let mut steps = usize::MAX;
+    for lane in lanes {
+        steps = steps.min(free(*lane, back));
+    }
+    steps
 }
 
 // Steps of all four, as far as none of them ends.
-fn side_by_side(lanes: Lanes, front: &[u64], back: &[u64]) -> Lanes
-    requires lists { Lists front.now back.now }
-    requires swept { Strides front.now back.now lanes lanes 0 }
-    ensures { (k : ℕ) × Strides front.now back.now lanes result k }
+fn side_by_side(lanes: [Lane; 4], lists: Lists) -> [Lane; 4]
+    requires { All (Swept lists.front.now lists.back.now) lanes }
+    ensures { (k : ℕ) × Strides lists.entry.front.now lists.entry.back.now lanes result k }
 {
     let mut run = lanes;
-    let mut steps = all_free(run, back.len());
+    let mut steps = all_free(&run, lists.back.len());
     while steps > 0 {
-        run = stride(run, front, back, steps);
-        steps = all_free(run, back.len());
+        run = stride(run, lists, steps);
+        steps = all_free(&run, lists.back.len());
     }
     run
 }
 
 // Goes on with one sweep to its end.
-fn finish(lane: Lane, front: &[u64], back: &[u64]) -> u64
-    requires lists { Lists front.now back.now }
-    requires swept { Swept front.now back.now lane }
-    ensures { LeastSum Any front.now back.now lane.from lane.to result }
+fn finish(lane: Lane, lists: Lists) -> u64
+    requires { Swept lists.front.now lists.back.now lane }
+    ensures { LeastSum Any lists.entry.front.now lists.entry.back.now lane.from lane.to result }
 {
     let mut run = lane;
-    while run.at < back.len() && run.left > 0 {
-        run = step(run, front, back);
+    while run.at < lists.back.len() && run.left > 0 {
+        run = step(run, lists);
     }
     run.found
 }
 
-// The least sum for each of the tops, of which there are one to four.
-pub fn four(tops: &[u64], front: &[u64], back: &[u64], from: u64, to: u64) -> [u64; 4]
-    requires lists { Lists front.now back.now }
+// The least sum for a top alone.
+fn alone(top: u64, lists: Lists, from: u64, to: u64) -> u64
+    ensures { LeastSum Any lists.entry.front.now lists.entry.back.now (from - top) (to - top) result }
+{
+    finish(fresh(top, lists.front.len(), from, to), lists)
+}
+
+// The least sum for each of the tops, of which there are one to four, by four sweeps side by side.
+fn four(tops: &[u64], lists: Lists, from: u64, to: u64) -> [u64; 4]
     requires some { 0 < length tops.now }
     requires few { length tops.now ≤ 4 }
-    ensures { (t : ℕ) → t < length tops.now → LeastSum Any front.now back.now (from - slice_index tops.now t) (to - slice_index tops.now t) (slice_index result t) }
+    ensures { (t : ℕ) → t < length tops.now → LeastSum Any lists.entry.front.now lists.entry.back.now (from - slice_index tops.now t) (to - slice_index tops.now t) (slice_index result t) }
 {
     let last = tops.len() - 1;
-    let many = front.len();
-    let lanes = Lanes {
-        a: fresh(tops[0], many, from, to),
-        b: fresh(tops[last.min(1)], many, from, to),
-        c: fresh(tops[last.min(2)], many, from, to),
-        d: fresh(tops[last.min(3)], many, from, to),
-    };
-    let run = side_by_side(lanes, front, back);
-    [
-        finish(run.a, front, back),
-        finish(run.b, front, back),
-        finish(run.c, front, back),
-        finish(run.d, front, back),
-    ]
+    let lanes = array::from_fn(|t| fresh(tops[t.min(last)], lists.front.len(), from, to));
+    let run = side_by_side(lanes, lists);
+    array::from_fn(|t| finish(run[t], lists))
+}
+
+// The least sum for each of the tops, of which there are at most four. One alone has no others run beside it.
+pub fn each(tops: &[u64], lists: Lists, from: u64, to: u64) -> [u64; 4]
+    requires { length tops.now ≤ 4 }
+    ensures { (t : ℕ) → t < length tops.now → LeastSum Any lists.entry.front.now lists.entry.back.now (from - slice_index tops.now t) (to - slice_index tops.now t) (slice_index result t) }
+{
+    match tops {
+        [] => [to; 4],
+        [top] => [alone(*top, lists, from, to); 4],
+        _ => four(tops, lists, from, to),
+    }
 }

@@ -5,7 +5,8 @@ mod band;
 mod counted;
 mod four;
 mod lane;
-mod lanes;
+mod lists;
 mod tops;
 
+pub use lists::Lists;
 pub use tops::least;

@@ -1,24 +1,21 @@
 // The least sum of a top and an entry of each list within a limit of pans.
 ghost use Rattle.std.specs.Prelude.{ℕ, ◌^◌, ◌<◌, ◌≤◌, length, slice_index};
-ghost use Rattle.sweeps.specs.Sweep.{Apart, LeastOf, Lists, Together, Whatever};
+ghost use Rattle.sweeps.specs.Sweep.{Apart, LeastOf, Together, Whatever};
 
 use crate::counted::fewest;
-use crate::four::four;
+use crate::four::each;
+use crate::lists::Lists;
 use places::pans_in;
 
 // The least sum of all, whatever it opens.
-fn first(tops: &[u64], front: &[u64], back: &[u64], from: u64, to: u64) -> u64
-    requires lists { Lists front.now back.now }
-    requires few { length tops.now ≤ 4 }
-    ensures { LeastOf Whatever (length tops.now) tops.now front.now back.now from to result }
+fn first(tops: &[u64], lists: Lists, from: u64, to: u64) -> u64
+    requires { length tops.now ≤ 4 }
+    ensures { LeastOf Whatever (length tops.now) tops.now lists.entry.front.now lists.entry.back.now from to result }
 {
-    if tops.len() == 0 {
-        return to;
-    }
-    let found = four(tops, front, back, from, to);
+    let found = each(tops, lists, from, to);
     let mut least = to;
-    for t in 0..tops.len() {
-        least = least.min(found[t] + tops[t]);
+    for (top, more) in tops.iter().zip(&found) {
+        least = least.min(more + top);
     }
     least
 }
@@ -27,16 +24,15 @@ fn first(tops: &[u64], front: &[u64], back: &[u64], from: u64, to: u64) -> u64
 const TRIES: u32 = 3;
 
 // What is found first opens the fewest pans of its weight, so where that is too many the next weight is tried.
-pub fn least(tops: &[u64], front: &[u64], back: &[u64], limit: u64, from: u64, to: u64) -> u64
-    requires lists { Lists front.now back.now }
+pub fn least(tops: &[u64], lists: Lists, limit: u64, from: u64, to: u64) -> u64
     requires few { length tops.now ≤ 4 }
     requires low { (t : ℕ) → t < length tops.now → slice_index tops.now t < 2 ^ 62 }
-    requires apart { Apart tops.now front.now back.now }
-    ensures { LeastOf (Together limit) (length tops.now) tops.now front.now back.now from to result }
+    requires apart { Apart tops.now lists.front.now lists.back.now }
+    ensures { LeastOf (Together limit) (length tops.now) tops.now lists.entry.front.now lists.entry.back.now from to result }
 {
     let mut at = from;
     for _ in 0..TRIES {
-        let found = first(tops, front, back, at, to);
+        let found = first(tops, lists, at, to);
         if found >= to {
             return to;
         }
@@ -45,5 +41,5 @@ pub fn least(tops: &[u64], front: &[u64], back: &[u64], limit: u64, from: u64, t
         }
         at = ((found >> 29) + 1) << 29;
     }
-    fewest(tops, front, back, limit, at, to)
+    fewest(tops, lists, limit, at, to)
 }

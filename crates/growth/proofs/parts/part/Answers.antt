@@ -1,39 +1,34 @@
 -- What is left of the proof that the entries are the part's.
-use Rattle.std.proofs.Common.{◌+◌, ◌-◌, ◌^◌, ◌≤◌, length, ◌∙◌, arith, pow_mono}
+use Rattle.std.proofs.Common.{length, refl, ◌∙◌, arith}
 use Rattle.std.proofs.lemmas.List.{length-set, get_or-set_same}
-use Rattle.std.proofs.lemmas.Nat.{one_shl, pow_pos}
-use Rattle.growth.proofs.ByPan.{part_last, part_step, part_room, part_below, part_first}
+use Rattle.std.proofs.lemmas.Nat.{pow_pos}
+use Rattle.growth.proofs.ByPan.{all, from_last, from_step, from_room, from_sorted, from_first, part_of}
 use Rattle.growth.proofs.parts.part.Goals as goal
-
-pub overflow_sub-es : goal.overflow_sub-es
-overflow_sub-es c =
-    let b = c.args.behind in
-    let n = length c.args.pans.weights.now in
-    let m : 2 ^ b ≤ 2 ^ (b + n) = pow_mono (omega arith) in
-    omega (arith, one_shl b 64 (omega (arith, c.requires.few)), one_shl (b + n) 64 (omega (arith, c.requires.few)))
-
-pub gain-requires : goal.gain-requires
-gain-requires c = record { light = c.args.pans.light (c.loop-k.k - 1); few = omega (arith, c.requires.few) }
 
 pub loop-k-init : goal.loop-k-init
 loop-k-init c =
+    let p = c.args.pans in
     let b = c.args.behind in
-    let n = length c.args.pans.weights.now in
-    part_last b c.args.to c.args.pans.weights.now c.args.pans.ways.now c.args.pans.paired c.requires.few c.args.pans.light _
-    (get_or-set_same c.args.es.now 0 _ 0 (omega (arith, c.requires.room, pow_pos n)) ∙ omega (arith, one_shl b 64 (omega (arith, c.requires.few)), one_shl (b + n) 64 (omega (arith, c.requires.few))))
+    let n = length p.weights.now in
+    from_last all b c.args.to p c.requires.few n _ refl
+    (get_or-set_same c.args.es.now 0 _ 0 (omega (arith, c.requires.room, pow_pos n)) ∙ c.all_shut.ensures)
 
 pub grow-n-requires : goal.grow-n-requires
 grow-n-requires c =
+    let p = c.args.pans in
+    let h = c.loop-k.invariant in
     record {
-      room = omega (arith, c.requires.room, simp length-set at c.loop-k.auto.es, part_room c.args.behind c.args.to c.args.pans.weights.now c.args.pans.ways.now c.args.pans.paired c.requires.few c.args.pans.light c.loop-k.k _ _ c.loop-k-test.true (omega arith) c.loop-k.invariant);
-      rises = c.loop-k.invariant.rises;
-      low = part_below c.args.behind c.args.to c.args.pans.weights.now c.args.pans.ways.now c.args.pans.paired c.requires.few c.args.pans.light c.loop-k.k _ _ c.loop-k.invariant;
+      room = omega (arith, c.requires.room, simp length-set at c.loop-k.auto.es, from_room all c.args.behind c.args.to p c.requires.few c.loop-k.k _ _ c.loop-k-test.true (omega arith) h);
+      sorted = from_sorted all c.args.behind c.args.to p c.requires.few c.loop-k.k _ _ h;
     }
 
 pub loop-k-preserved : goal.loop-k-preserved
 loop-k-preserved c =
-    part_step c.args.behind c.args.to c.args.pans.weights.now c.args.pans.ways.now c.args.pans.paired c.requires.few c.args.pans.light c.loop-k.k c.loop-k-test.true (omega arith)
-    _ c.gain.result _ _ _ _ c.gain.ensures c.loop-k.invariant c.grow-n.ensures.grown
+    let p = c.args.pans in
+    from_step all c.args.behind c.args.to p c.requires.few (λ i us a cs o. o) c.loop-k.k c.loop-k-test.true (omega arith)
+    _ _ _ _ _ _ c.of-pan.ensures.way c.of-pan.ensures.gain c.loop-k.invariant c.grow-n.ensures.grown
 
 pub returns : goal.returns
-returns c = part_first c.args.behind c.args.to c.args.pans.weights.now c.args.pans.ways.now c.args.pans.paired c.requires.few c.args.pans.light c.loop-k.k _ _ c.loop-k-test.false c.loop-k.invariant
+returns c =
+    let p = c.args.pans in
+    part_of _ _ _ _ _ _ (from_first all c.args.behind c.args.to p c.requires.few c.loop-k.k _ _ c.loop-k-test.false c.loop-k.invariant)

@@ -3,12 +3,12 @@ use Rattle.std.proofs.Common.{rules}
 use Rattle.halves.proofs.Answered.{found_none, found_first}
 use Rattle.halves.proofs.answer.best.Goals as goal
 
-pub returns-in-Some : goal.returns-in-Some
-returns-in-Some c =
+pub returns : goal.returns
+returns c =
     let ring = c.args.ring in
-    found_first ring.rule ring.weights.now ring.ages.now ring.few ring.paired _ _ _ _ (search rules) (search rules) (search rules) (search rules) _ _ c.in-Some.ensures c.bag_in.ensures
+    found_first ring.rule ring.weights.now ring.ages.now ring.few ring.paired _ _ _ _ (search rules) (search rules) (search rules) (search rules) _ _ c.in_ok-place.ensures c.bag_in.ensures
 
-pub returns-in-None : goal.returns-in-None
-returns-in-None c =
+pub returns-in_err-place : goal.returns-in_err-place
+returns-in_err-place c =
     let ring = c.args.ring in
-    found_none ring.rule ring.weights.now ring.ages.now ring.few ring.paired _ _ _ _ (search rules) (search rules) (search rules) (search rules) c.in-None.ensures
+    rw c.from_residual.ensures (found_none ring.rule ring.weights.now ring.ages.now ring.few ring.paired _ _ _ _ (search rules) (search rules) (search rules) (search rules) c.in_err-place.ensures)

@@ -6,11 +6,11 @@ use Rattle.halves.proofs.sieve.sieve.Goals.{then-worth, else-worth}
 
 pub loop-i-preserved : goal.loop-i-preserved
 loop-i-preserved c =
-    sieving_more _ _ _ _ _ _ _ c.loop-i.invariant (omega arith) (omega (arith, c.requires.room, c.loop-i.auto.es)) c.requires.rises
+    sieving_more _ _ _ _ _ _ _ c.loop-i.invariant (omega arith) (omega (arith, c.loop-i.auto.es)) c.requires
     (elim c.if-worth.branch [
       | then-worth w ↦ inl (w.left-is, kept_true c.args.bounds _ _ (c.loop-i.invariant.unread c.loop-i.i (omega arith)) w.if-worth.ensures)
       | else-worth w ↦ inr (w.left-is, kept_false c.args.bounds _ _ (c.loop-i.invariant.unread c.loop-i.i (omega arith)) w.if-worth.ensures)
     ])
 
-pub returns : goal.returns
-returns c = record { sieved = sieving_all _ _ _ _ _ _ c.loop-i.invariant (omega arith); lean = c.loop-i.invariant.lean }
+pub returns-clause-sieved : goal.returns-clause-sieved
+returns-clause-sieved c = sieving_all _ _ _ _ _ _ c.loop-i.invariant (omega arith)

@@ -1,28 +1,20 @@
 -- What is left of the proof that the entries are those of both parts.
-use Rattle.std.proofs.Common.{◌≡◌, ℕ, ◌+◌, ◌-◌, ◌^◌, ◌<◌, ◌≤◌, length, set, ap, ◌∙◌, arith, pow_mono}
-use Rattle.std.proofs.lemmas.List.{length-set, get_or-set_same, get_or-set_other}
-use Rattle.std.proofs.lemmas.Nat.{one_shl, pow_pos}
-use Rattle.growth.proofs.ByPan.{part_last, part_last_of, part_step, part_room, part_below, part_first}
-use Rattle.pairs.proofs.Beside.{first_behind}
+use Rattle.std.proofs.Common.{◌≡◌, ℕ, ◌+◌, ◌-◌, ◌^◌, ◌<◌, length, refl, ap, ◌∙◌, arith}
+use Rattle.std.proofs.lemmas.List.{length-set, get_or-set_same}
+use Rattle.std.proofs.lemmas.Nat.{pow_pos}
+use Rattle.growth.proofs.ByPan.{all, from_last, from_step, from_room, from_sorted, from_first, part_of}
 use Rattle.pairs.proofs.pair.both.Goals as goal
-
-pub overflow_sub-es : goal.overflow_sub-es
-overflow_sub-es c =
-    let n = length c.args.front.weights.now in
-    let m : 2 ^ n ≤ 2 ^ (n + n) = pow_mono (omega arith) in
-    omega (arith, one_shl n 64 (omega (arith, c.requires.few)), one_shl (n + n) 64 (omega (arith, c.requires.few)))
 
 pub loop-k-init : goal.loop-k-init
 loop-k-init c =
     let f = c.args.front in
     let b = c.args.back in
     let n = length f.weights.now in
-    let cut = c.args.cut in
-    let shl = one_shl n 64 (omega (arith, c.requires.few)) in
-    let some : 0 < cut = omega (arith, c.requires.cut, pow_pos n) in (
-      part_last n c.args.to f.weights.now f.ways.now f.paired c.requires.few f.light _
-          (get_or-set_other (set c.args.es.now 0 _) cut 0 _ 0 (omega arith) ∙ (get_or-set_same c.args.es.now 0 _ 0 (omega (arith, c.requires.room)) ∙ omega (arith, shl, one_shl (n + n) 64 (omega (arith, c.requires.few))))),
-      part_last_of c.args.to b.weights.now b.ways.now b.paired b.few b.light n c.requires.same _ (first_behind (set c.args.es.now 0 _) cut _ (simp length-set (omega (arith, c.requires.room))) ∙ omega (arith, shl)),
+    let some : 0 < 2 ^ n = pow_pos n in (
+      from_last all n c.args.to f c.requires.few n _ refl
+          (get_or-set_same c.args.front_room.now 0 _ 0 (omega (arith, c.requires.front_room)) ∙ c.all_shut.ensures),
+      from_last all 0 c.args.to b (omega (arith, b.few)) n _ c.requires.same
+          (get_or-set_same c.args.back_room.now 0 _ 0 (omega (arith, c.requires.back_room)) ∙ c.all_shut-2.ensures),
     )
 
 pub grow_both-sizes-requires : goal.grow_both-sizes-requires
@@ -33,12 +25,10 @@ grow_both-sizes-requires c =
     let h = c.loop-k.invariant in
     let same : 2 ^ length b.weights.now ≡ 2 ^ n = ap (λ (m : ℕ). 2 ^ m) c.requires.same in
     record {
-      front_room = omega (arith, c.requires.cut, part_room n c.args.to f.weights.now f.ways.now f.paired c.requires.few f.light c.loop-k.k _ _ c.loop-k-test.true (omega arith) h.0);
-      back_room = omega (arith, c.requires.cut, c.requires.room, simp length-set at c.loop-k.auto.es, part_room 0 c.args.to b.weights.now b.ways.now b.paired (omega (arith, b.few)) b.light c.loop-k.k _ _ c.loop-k-test.true (omega (arith, c.requires.same)) h.1);
-      front_rises = h.0.rises;
-      back_rises = h.1.rises;
-      front_low = part_below n c.args.to f.weights.now f.ways.now f.paired c.requires.few f.light c.loop-k.k _ _ h.0;
-      back_low = part_below 0 c.args.to b.weights.now b.ways.now b.paired (omega (arith, b.few)) b.light c.loop-k.k _ _ h.1;
+      front_room = omega (arith, c.requires.front_room, simp length-set at c.loop-k.auto.front_room, from_room all n c.args.to f c.requires.few c.loop-k.k _ _ c.loop-k-test.true (omega arith) h.0);
+      back_room = omega (arith, c.requires.back_room, simp length-set at c.loop-k.auto.back_room, from_room all 0 c.args.to b (omega (arith, b.few)) c.loop-k.k _ _ c.loop-k-test.true (omega (arith, c.requires.same)) h.1);
+      front_sorted = from_sorted all n c.args.to f c.requires.few c.loop-k.k _ _ h.0;
+      back_sorted = from_sorted all 0 c.args.to b (omega (arith, b.few)) c.loop-k.k _ _ h.1;
     }
 
 pub loop-k-preserved : goal.loop-k-preserved
@@ -49,8 +39,8 @@ loop-k-preserved c =
     let h = c.loop-k.invariant in
     let k = c.loop-k.k in
     let e : 2 ^ (0 + (length b.weights.now - 1 - (k - 1))) ≡ 2 ^ (n - 1 - (k - 1)) = ap (λ (m : ℕ). 2 ^ m) (omega (arith, c.requires.same)) in (
-      part_step n c.args.to f.weights.now f.ways.now f.paired c.requires.few f.light k c.loop-k-test.true (omega arith) _ c.gain.result _ _ _ _ c.gain.ensures h.0 c.grow_both-sizes.ensures.front,
-      part_step 0 c.args.to b.weights.now b.ways.now b.paired (omega (arith, b.few)) b.light k c.loop-k-test.true (omega (arith, c.requires.same)) _ c.gain-in-loop-k.result _ _ _ _ (omega (arith, e, c.gain-in-loop-k.ensures)) h.1 c.grow_both-sizes.ensures.back,
+      from_step all n c.args.to f c.requires.few (λ i us a cs o. o) k c.loop-k-test.true (omega arith) _ _ _ _ _ _ c.of-first.ensures.way c.of-first.ensures.gain h.0 c.grow_both-sizes.ensures.front,
+      from_step all 0 c.args.to b (omega (arith, b.few)) (λ i us a cs o. o) k c.loop-k-test.true (omega (arith, c.requires.same)) _ _ _ _ _ _ c.of-second.ensures.way (omega (arith, e, c.of-second.ensures.gain)) h.1 c.grow_both-sizes.ensures.back,
     )
 
 pub returns : goal.returns
@@ -58,6 +48,6 @@ returns c =
     let f = c.args.front in
     let b = c.args.back in
     record {
-      front = part_first (length f.weights.now) c.args.to f.weights.now f.ways.now f.paired c.requires.few f.light c.loop-k.k _ _ c.loop-k-test.false c.loop-k.invariant.0;
-      back = part_first 0 c.args.to b.weights.now b.ways.now b.paired (omega (arith, b.few)) b.light c.loop-k.k _ _ c.loop-k-test.false c.loop-k.invariant.1;
+      front = part_of _ _ _ _ _ _ (from_first all (length f.weights.now) c.args.to f c.requires.few c.loop-k.k _ _ c.loop-k-test.false c.loop-k.invariant.0);
+      back = part_of _ _ _ _ _ _ (from_first all 0 c.args.to b (omega (arith, b.few)) c.loop-k.k _ _ c.loop-k-test.false c.loop-k.invariant.1);
     }

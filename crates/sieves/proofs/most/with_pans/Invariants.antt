@@ -1,9 +1,10 @@
--- What the pans from i on weigh at most, with those before.
-use Rattle.std.proofs.Common.{ℕ, ◌+◌, ◌-◌, ◌*◌, ◌≤◌, List, ◌++◌, length, get_or, drop}
-use Rattle.sieves.specs.Sieve.{Most}
+-- What the pans that are taken in weigh at most, with those before.
+use Rattle.std.specs.Slice.Iter.{iter_rest}
+use Rattle.std.specs.Iterator.Adapters.{rev_source}
+use Rattle.sieves.proofs.Weighing.{Weighing}
 use Rattle.sieves.proofs.most.with_pans.Given as goal
 
-abbrev pub invariant-loop-i : goal.invariant-loop-i
-invariant-loop-i l =
-    ((us : List ℕ) → Most us l.initial.most → Most (drop l.i l.weights ++ us) l.most)
-    × ((b : ℕ) → ((r : ℕ) → get_or l.initial.most r 0 ≤ b) → (r : ℕ) → get_or l.most r 0 ≤ b + (length l.weights - l.i) * 1000000)
+abbrev pub invariant-loop-weight : goal.invariant-loop-weight
+invariant-loop-weight l =
+    (goal.iterator-loop-weight).can_next l.weight-iterator × (goal.iterator-loop-weight).is_finite l.weight-iterator
+    × Weighing l.weights (iter_rest (rev_source l.weight-iterator)) l.initial.most l.most

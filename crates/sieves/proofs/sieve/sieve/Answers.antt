@@ -5,7 +5,7 @@ use Rattle.sieves.proofs.sieve.sieve.Goals as goal
 
 pub loop-i-preserved : goal.loop-i-preserved
 loop-i-preserved c =
-    sieving_more _ _ _ _ _ _ _ c.loop-i.invariant (omega arith) (omega (arith, c.requires.room, c.loop-i.auto.es)) c.requires.rises
+    sieving_more _ _ _ _ _ _ _ c.loop-i.invariant (omega arith) (omega (arith, c.loop-i.auto.es)) c.requires
     (kept_or_not c.args.short.now _ _ _ _ (c.loop-i.invariant.unread c.loop-i.i (omega arith)) c.pans_in.ensures c.above.ensures)
 
 pub returns : goal.returns

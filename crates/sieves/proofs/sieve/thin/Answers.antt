@@ -2,5 +2,5 @@
 use Rattle.sieves.proofs.Parts.{thinned_from}
 use Rattle.sieves.proofs.sieve.thin.Goals as goal
 
-pub returns-then-bounds-pans : goal.returns-then-bounds-pans
-returns-then-bounds-pans c = thinned_from _ _ c.args.skip c.args.len _ _ _ _ _ c.worth.ensures c.sieve.ensures
+pub returns-then-bounds-span : goal.returns-then-bounds-span
+returns-then-bounds-span c = thinned_from _ _ c.args.span.skip c.args.span.len _ _ _ _ _ c.worth.ensures c.sieve.ensures

@@ -5,4 +5,4 @@ use Rattle.sweeps.specs.Sweep.{Few, LeastSum}
 use Rattle.sweeps.proofs.counted.counted.Given as goal
 
 abbrev pub invariant-loop-k : goal.invariant-loop-k
-invariant-loop-k l = LeastSum (λ a b. (pans_in a < l.k) × Few l.limit a b) l.front l.back l.from l.to l.found
+invariant-loop-k l = LeastSum (λ a b. (pans_in a < l.k) × Few l.limit a b) l.lists.front.now l.lists.back.now l.from l.to l.found

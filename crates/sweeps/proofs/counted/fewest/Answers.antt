@@ -4,7 +4,7 @@ use Rattle.sweeps.specs.Sweep.{Together}
 use Rattle.sweeps.proofs.Sweeping.{least_top}
 use Rattle.sweeps.proofs.counted.fewest.Goals as goal
 
-pub loop-t-preserved : goal.loop-t-preserved
-loop-t-preserved c =
+pub loop-top-preserved : goal.loop-top-preserved
+loop-top-preserved c =
     rw c.min-found.ensures
-    (least_top (Together c.args.limit) c.loop-t.t c.args.tops.now _ _ _ _ _ c.loop-t.found _ c.loop-t.invariant (omega arith) (rw (c.saturating_sub.ensures, c.saturating_sub-in-loop-t.ensures) at c.beside-more.ensures))
+    (least_top (Together c.args.limit) c.loop-top.top-index c.args.tops.now _ _ _ _ _ c.loop-top.found _ c.loop-top.invariant (omega arith) (rw (c.saturating_sub.ensures, c.saturating_sub-in-loop-top.ensures) at c.beside-more.ensures))

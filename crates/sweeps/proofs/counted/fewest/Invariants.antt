@@ -2,5 +2,5 @@
 use Rattle.sweeps.specs.Sweep.{LeastOf, Together}
 use Rattle.sweeps.proofs.counted.fewest.Given as goal
 
-abbrev pub invariant-loop-t : goal.invariant-loop-t
-invariant-loop-t l = LeastOf (Together l.limit) l.t l.tops l.front l.back l.from l.to l.found
+abbrev pub invariant-loop-top : goal.invariant-loop-top
+invariant-loop-top l = LeastOf (Together l.limit) l.top-index l.tops l.lists.front.now l.lists.back.now l.from l.to l.found

@@ -5,7 +5,7 @@ use Rattle.sweeps.proofs.Sweeping.{Sweeping}
 use Rattle.sweeps.proofs.counted.sweep.Given as goal
 
 abbrev pub invariant-loop-i : goal.invariant-loop-i
-invariant-loop-i l = Sweeping (Meets l.band) l.front l.back l.from l.to l.i l.j l.found
+invariant-loop-i l = Sweeping (Meets l.band) l.lists.front.now l.lists.back.now l.from l.to l.i l.j l.found
 
 abbrev pub decreases-loop-i : goal.decreases-loop-i
-decreases-loop-i l = (length l.back - l.i) + l.j
+decreases-loop-i l = (length l.lists.back.now - l.i) + l.j

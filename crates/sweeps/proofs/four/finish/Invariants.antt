@@ -4,7 +4,7 @@ use Rattle.sweeps.specs.Lane.{Strode}
 use Rattle.sweeps.proofs.four.finish.Given as goal
 
 abbrev pub invariant-loop-run : goal.invariant-loop-run
-invariant-loop-run l = (k : ℕ) × Strode l.front l.back l.initial.run l.run k
+invariant-loop-run l = (k : ℕ) × Strode l.lists.front.now l.lists.back.now l.initial.run l.run k
 
 abbrev pub decreases-loop-run : goal.decreases-loop-run
-decreases-loop-run l = (length l.back - l.run.at) + l.run.left
+decreases-loop-run l = (length l.lists.back.now - l.run.at) + l.run.left

@@ -1,6 +1,0 @@
--- What is raised, and what is not yet.
-use Rattle.std.proofs.Common.{◌≡◌, ℕ, ◌+◌, ◌<◌, ◌≤◌, get_or}
-use Rattle.halves.proofs.grow.raise.Given as goal
-
-abbrev pub invariant-loop-i : goal.invariant-loop-i
-invariant-loop-i l = ((p : ℕ) → p < l.i → get_or l.es p 0 ≡ get_or l.initial.es p 0 + l.gain) × ((p : ℕ) → l.i ≤ p → get_or l.es p 0 ≡ get_or l.initial.es p 0)

@@ -1,8 +1,0 @@
-// What may be done with a pan.
-
-// Whether the pan may be opened, and whether it may stay shut.
-#[derive(Clone, Copy)]
-pub struct Way {
-    pub opens: bool,
-    pub stays: bool,
-}
