@@ -2,7 +2,8 @@
 
 // How many bags were made, what they weigh together, what of that was given away (all that is above so many targets), and
 // whether the season ended early, at a bag for which no choice fits.
-#[derive(Clone, Copy)]
+// The ending is a flag, since every number beside it holds either way: two kinds of season would carry the same fields twice.
+#[derive(Clone, Copy, Debug, PartialEq, Eq)]
 pub struct Played {
     pub bags: u32,
     pub weight: u64,

@@ -1,4 +1,5 @@
 // A choice as the bits of a number, pan 0 in the highest: what it weighs, how many pans it opens, whether it fits.
+// Ring and choice stay two parameters: the ring is lent once and its choices come one after another, as bare numbers.
 ghost use Rattle.choices.specs.Choice.{fits as fits_rule, opened, weight_of};
 ghost use Rattle.choices.specs.Numbered.{choice_of, number_of};
 ghost use Rattle.std.specs.Prelude.{◌≡◌, length};

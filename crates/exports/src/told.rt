@@ -1,4 +1,4 @@
-// What a season's call answers, in numbers.
+// What a season's call answers, in numbers: C has no enums that hold values.
 
 // The first refusal's number, or 0; and how many bags were made, what they weigh together and what of that was given away.
 #[repr(C)]

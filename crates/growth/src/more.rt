@@ -38,7 +38,8 @@ pub fn openable(es: &[u64], pan: Pan, to: u64) -> usize
     }
 }
 
-// One pan more, which may be opened or stay shut by its way; gives how many entries there are then.
+// One pan more, which may be opened or stay shut by its way; gives how many entries there are then. The entries fill the
+// front of a lent room, and new ones are made behind them, so their number stands beside the room.
 pub fn grow(es: &mut [u64], n: usize, pan: Pan, to: u64) -> usize
     requires room { n + n ≤ length es.old }
     requires sorted { Sorted es.old n }

@@ -32,6 +32,7 @@ pub fn part(pans: Pans, behind: usize, to: u64, es: &mut [u64]) -> usize
     let count = pans.weights.len();
     es[0] = all_shut(count, behind);
     let mut n = 1;
+    // Counted down, since a pan's number also says how many stand behind it.
     for k in (0..count).rev() {
         let pan = Pan::of(pans, k, behind + (count - 1 - k));
         n = grow(es, n, pan, to);

@@ -1,4 +1,4 @@
-// What may be left out of the halves.
+// What may be left out of the halves: by the heaviest pan alone, where `sieves::Bounds` goes by what each count of pans weighs at most.
 ghost use Rattle.std.specs.Prelude.{◌^◌, ◌<◌, ◌≤◌};
 
 // A choice opens at most `limit` pans, weighs at least `least` grams, of which no pan holds more than the heaviest, and its

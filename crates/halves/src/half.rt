@@ -17,6 +17,7 @@ pub fn half<'a>(pans: Pans, behind: usize, bounds: Bounds, es: &'a mut [u64]) ->
     let count = pans.weights.len();
     es[0] = all_shut(count, behind);
     let mut n = 1;
+    // Counted down, since a pan's number also says how many stand behind it.
     for k in (0..count).rev() {
         let pan = Pan::of(pans, k, behind + (count - 1 - k));
         let grown = grow(es, n, pan, bounds.to);

@@ -12,7 +12,8 @@ use finders::Scan;
 use order::Bag;
 
 // Makes the best bag that the rule (target, above, pans, age) allows: its pans are then empty and of age 0, all others a
-// bag older. By the scan, with no room.
+// bag older. By the scan, with no room. Rule, weights and ages are three lent slices, as the line keeps them: two are written and
+// one is not, so a struct of them would be taken apart at once.
 pub fn bag(rule: &[u32], weights: &mut [u32], ages: &mut [u32]) -> Result<Option<Bag>, Refusal>
     ensures { Answered (first_refusal rule.now weights.old ages.old) (rule_in rule.now) weights.old ages.old result weights.new ages.new }
 {

@@ -21,7 +21,8 @@ fn open_pans(weights: &mut [u32], ages: &mut [u32], pans: u32)
     mark(ages, pans, 1);
 }
 
-// Makes the best bag, or none where no choice whatever fits: then nothing changes.
+// Makes the best bag, or none where no choice whatever fits: then nothing changes. Weights and ages are lent to be written,
+// which a `Ring` rules out, so what a ring knows of them is asked for here.
 pub fn pack<F: Finder>(
     rule: Rule,
     weights: &mut [u32],

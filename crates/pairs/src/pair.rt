@@ -116,6 +116,7 @@ pub fn both(
     front_room[0] = all_shut(count, count);
     back_room[0] = all_shut(count, 0);
     let mut sizes = Sizes { front: 1, back: 1 };
+    // Counted down, since a number stands for a pan of each part and says how many stand behind it.
     for k in (0..count).rev() {
         let after = count - 1 - k;
         let first = Pan::of(front, k, count + after);

@@ -4,7 +4,8 @@ ghost use Rattle.search.specs.Sought.{Sought};
 
 use crate::criterion::Criterion;
 
-// How far a search has come: every candidate below `next` is done with, and `best` is the best of them.
+// How far a search has come: every candidate below `next` is done with, and `best` is the best of them. That is a fact by
+// cases of `best`, which a type could hold only truncated, so the functions ask for it in full.
 #[derive(Clone, Copy)]
 pub struct Progress {
     pub next: u64,

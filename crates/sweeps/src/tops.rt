@@ -1,4 +1,5 @@
-// The least sum of a top and an entry of each list within a limit of pans.
+// The least sum of a top and an entry of each list within a limit of pans. Where there is none the bound `to` is answered: a
+// minimum starts from it anyway, and an `Option` would be tested at each step.
 ghost use Rattle.std.specs.Prelude.{ℕ, ◌^◌, ◌<◌, ◌≤◌, length, slice_index};
 ghost use Rattle.sweeps.specs.Sweep.{Apart, LeastOf, Together, Whatever};
 

@@ -25,8 +25,8 @@ fn run(rt: &HostRuntime) -> anyhow::Result<()> {
     let heap = rt.alloc();
     let mut entries = vec![in heap; 0; ROOM]?;
     let mut bytes = vec![in heap; 0; BYTES]?;
-    let mut by_hand = Score::NOTHING;
-    let mut scores = Scores::NOTHING;
+    let mut by_hand = Score::default();
+    let mut scores = Scores::default();
     for row in WORKED {
         let case = row.case();
         by_hand.note(all_tried(&case).answer == row.answer);

@@ -3,15 +3,13 @@ ghost use Rattle.trials.specs.Counted.{Noted};
 
 use std::fmt;
 
-#[derive(Clone, Copy)]
+#[derive(Clone, Copy, Default)]
 pub struct Score {
     pub tried: u32,
     pub agree: u32,
 }
 
 impl Score {
-    pub const NOTHING: Score = Score { tried: 0, agree: 0 };
-
     pub fn note(&mut self, agreed: bool)
         ensures { Noted agreed self.old.tried self.old.agree self.new.tried self.new.agree }
     {
@@ -32,7 +30,7 @@ impl fmt::Display for Score {
 }
 
 // A score for each way to a bag.
-#[derive(Clone, Copy)]
+#[derive(Clone, Copy, Default)]
 pub struct Scores {
     pub bag: Score,
     pub bag_by_table: Score,
@@ -40,15 +38,4 @@ pub struct Scores {
     pub scan: Score,
     pub halves: Score,
     pub table: Score,
-}
-
-impl Scores {
-    pub const NOTHING: Scores = Scores {
-        bag: Score::NOTHING,
-        bag_by_table: Score::NOTHING,
-        bag_by_halves: Score::NOTHING,
-        scan: Score::NOTHING,
-        halves: Score::NOTHING,
-        table: Score::NOTHING,
-    };
 }
