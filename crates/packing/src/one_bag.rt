@@ -12,8 +12,7 @@ use order::Bag;
 
 // Opens the pans of a bag's number: they are then empty and of age 0, all others a bag older.
 fn open_pans(weights: &mut [u32], ages: &mut [u32], pans: u32)
-    requires light { (i : ℕ) → slice_index weights.old i ≤ 1000000 }
-    requires young { (i : ℕ) → slice_index ages.old i ≤ 1000000 }
+    requires { (i : ℕ) → slice_index ages.old i ≤ 1000000 }
     ensures empties { weights.new ≡ emptied weights.old (choice_from (length weights.old) pans) }
     ensures ages { ages.new ≡ aged ages.old (choice_from (length ages.old) pans) }
 {
