@@ -73,11 +73,9 @@ fn useless(ring: Ring, head: u32, last: u32, most: u32) -> bool
 pub fn best(ring: Ring) -> Option<Bag>
     ensures { Found (fits_rule ring.entry.rule ring.entry.weights.now ring.entry.ages.now) ring.entry.weights.now result }
 {
-    match search(&ring) {
-        None => None,
-        Some(k) => Some(Bag {
-            pans: number(ring, k as u32),
-            weight: weight(ring, k as u32),
-        }),
-    }
+    let k = search(&ring)? as u32;
+    Some(Bag {
+        pans: number(ring, k),
+        weight: weight(ring, k),
+    })
 }

@@ -96,7 +96,7 @@ fn side_by_side(lanes: [Lane; 4], lists: Lists) -> [Lane; 4]
     run
 }
 
-// Goes on with one sweep to its end.
+// Goes on with one sweep to its end: where it stands is the sweep's own state, which other steps have moved before.
 fn finish(lane: Lane, lists: Lists) -> u64
     requires { Swept lists.front.now lists.back.now lane }
     ensures { LeastSum Any lists.entry.front.now lists.entry.back.now lane.from lane.to result }
