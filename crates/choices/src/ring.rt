@@ -4,7 +4,8 @@ ghost use Rattle.std.specs.Prelude.{◌≡◌, ℕ, ◌≤◌, length, slice_ind
 use crate::rule::Rule;
 
 // 1 to 24 pans, each with what lies in it (0 is empty) and for how many bags it has waited.
-// A value of this type has passed every check of its numbers, so what works on it refuses nothing.
+// A value of this type has passed every check of its numbers, so what works on it refuses nothing. Weights and ages are two
+// lists, since the line lends them so.
 #[derive(Clone, Copy)]
 pub struct Ring<'a> {
     pub rule: Rule,

@@ -16,6 +16,7 @@ pub struct Tally {
 }
 
 impl Tally {
+    // Not what a `Default` would give: where nothing is opened, nothing empty is.
     const NOTHING: Tally = Tally {
         weight: 0,
         pans: 0,

@@ -3,7 +3,7 @@ ghost use Rattle.std.specs.Prelude.{◌≡◌, ℕ, ◌≤◌, length, take, dro
 
 use crate::way::Way;
 
-// At most 24 pans, each with what lies in it and its way.
+// At most 24 pans, each with what lies in it and its way: two lists, since the weights are lent and the ways made for one bag.
 #[derive(Clone, Copy)]
 pub struct Pans<'a> {
     pub weights: &'a [u32],

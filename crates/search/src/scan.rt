@@ -13,6 +13,7 @@ pub struct Progress {
 }
 
 impl Progress {
+    // What a `Default` would give, under a name.
     pub const START: Progress = Progress {
         next: 0,
         best: None,

@@ -16,6 +16,7 @@ pub struct Survey {
 }
 
 impl Survey {
+    // Not what a `Default` would give: where there are no pans, none that has to be opened is empty.
     pub const NOTHING: Survey = Survey {
         due: 0,
         held: 0,
