@@ -23,7 +23,8 @@ fn way(ring: Ring, pan: usize) -> Way
     }
 }
 
-// An array for as many pans as there can be, since no memory is asked for. A pan may be opened where something lies in it, and may stay shut while it has not waited for too many bags.
+// A pan may be opened where something lies in it, and may stay shut while it has not waited for too many bags. An array for as
+// many pans as there can be, since no memory is asked for.
 pub fn ways(ring: Ring) -> [Way; 24]
     ensures { take (length ring.entry.weights.now) result ≡ ways_by ring.entry.rule.age ring.entry.weights.now ring.entry.ages.now }
 {
