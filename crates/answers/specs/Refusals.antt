@@ -1,7 +1,9 @@
 -- The number and the place of each refusal. Assumes nothing: these are definitions.
 --   refusal_number   its number in the list of refusals
 --   refusal_place    where it applies, counted from 0
-use Rattle.std.specs.Prelude.{ℕ}
+--   lacked           refusal 5, with how much is taken, where less is there
+--   passed           what was asked for, where nothing is turned away, or why it is
+use Rattle.std.specs.Prelude.{ℕ, cond, Some, None, Ok, Err, Option, Result, nat_le}
 use Rattle.answers.specs.declared.refusal.Refusal.{Refusal}
 use Rattle.answers.specs.declared.refusal.Refusal.TheVariants.{Rule, Pans, Number, Line, Room}
 
@@ -18,3 +20,10 @@ refusal_place (Pans p) = p
 refusal_place (Number p) = p
 refusal_place (Line p) = p
 refusal_place (Room p) = p
+
+abbrev pub lacked : (takes has : ℕ) → Option Refusal
+lacked takes has = cond (nat_le takes has) None (Some (Room takes))
+
+abbrev pub passed : {X : Type 0} → Option Refusal → X → Result X Refusal
+passed None x = Ok x
+passed (Some f) x = Err f

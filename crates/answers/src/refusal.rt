@@ -17,9 +17,20 @@ pub enum Refusal {
 
 impl Refusal {
     ghost use Rattle.std.specs.Prelude.{◌≡◌};
-    ghost use Rattle.answers.specs.Refusals.{refusal_number, refusal_place};
+    ghost use Rattle.answers.specs.Refusals.{lacked, passed, refusal_number, refusal_place};
 
-    // The refusal's number in the list of refusals.
+    // Refusal 5 where a room has less than is taken of it.
+    pub fn unless_room(takes: usize, has: usize) -> Result<(), Refusal>
+        ensures { result ≡ passed (lacked takes has) tt }
+    {
+        if takes <= has {
+            Ok(())
+        } else {
+            Err(Refusal::Room(takes as u64))
+        }
+    }
+
+    // The refusal's number in the list of refusals, which an enum that holds places can't be cast to.
     pub fn number(self) -> u64
         ensures { result ≡ refusal_number self }
     {
@@ -32,6 +43,7 @@ impl Refusal {
         }
     }
 
+    // Its place: an arm for each case, since each counts something else.
     pub fn place(self) -> u64
         ensures { result ≡ refusal_place self }
     {

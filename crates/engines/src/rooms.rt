@@ -19,8 +19,8 @@ const PAYS: usize = 50;
 impl<'a> Finder for Rooms<'a> {
     ghost lacks = { λ _ _ _ _. None };
 
-    fn lacks(&self, _ring: Ring) -> Option<Refusal> {
-        None
+    fn suffices(&self, _ring: Ring) -> Result<(), Refusal> {
+        Ok(())
     }
 
     // The table by weight where its rows fit the lent bytes and pay; else the two halves, where these fit the lent entries;

@@ -2,16 +2,12 @@
 -- definitions.
 --   entries_lacked   of so many entries, the two halves
 --   bytes_lacked     of so many bytes, the table by weight
-use Rattle.std.specs.Prelude.{ℕ, cond, List, length, Some, None, Option, nat_le}
+use Rattle.std.specs.Prelude.{ℕ, List, length, Option}
+use Rattle.answers.specs.Refusals.{lacked}
 use Rattle.answers.specs.declared.refusal.Refusal.{Refusal}
-use Rattle.answers.specs.declared.refusal.Refusal.TheVariants.{Room}
 use Rattle.choices.specs.declared.rule.Rule.{Rule}
 use Rattle.halves.specs.Next.{room_for}
 use Rattle.table.specs.Pans.{table_bytes}
-
--- None where what is asked for is there
-abbrev pub lacked : (takes has : ℕ) → Option Refusal
-lacked takes has = cond (nat_le takes has) None (Some (Room takes))
 
 abbrev pub entries_lacked : (weights : List ℕ) → (entries : ℕ) → Option Refusal
 entries_lacked ws = lacked (room_for (length ws))

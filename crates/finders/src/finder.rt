@@ -1,6 +1,7 @@
 // What every way to the best bag promises.
 ghost use Rattle.choices.specs.Choice.{fits};
 ghost use Rattle.choices.specs.declared.rule.Rule.{Rule};
+ghost use Rattle.answers.specs.Refusals.{passed};
 ghost use Rattle.answers.specs.declared.refusal.Refusal.{Refusal as Turned};
 ghost use Rattle.order.specs.Order.{Found};
 ghost use Rattle.std.specs.Prelude.{◌≡◌, ℕ, List, None, Option};
@@ -14,8 +15,8 @@ pub trait Finder {
     // What a ring is turned away for, where too little was lent for it.
     ghost lacks: { Self → Rule → List ℕ → List ℕ → Option Turned };
 
-    fn lacks(&self, ring: Ring) -> Option<Refusal>
-        ensures { result ≡ lacks self.now ring.entry.rule ring.entry.weights.now ring.entry.ages.now };
+    fn suffices(&self, ring: Ring) -> Result<(), Refusal>
+        ensures { result ≡ passed (lacks self.now ring.entry.rule ring.entry.weights.now ring.entry.ages.now) tt };
 
     // Nothing is said of what was lent, after the call.
     fn best(&mut self, ring: Ring) -> Option<Bag>

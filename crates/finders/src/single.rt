@@ -26,8 +26,8 @@ pub struct Table<'a> {
 impl Finder for Scan {
     ghost lacks = { λ _ _ _ _. None };
 
-    fn lacks(&self, _ring: Ring) -> Option<Refusal> {
-        None
+    fn suffices(&self, _ring: Ring) -> Result<(), Refusal> {
+        Ok(())
     }
 
     fn best(&mut self, ring: Ring) -> Option<Bag> {
@@ -38,9 +38,9 @@ impl Finder for Scan {
 impl<'a> Finder for Halves<'a> {
     ghost lacks = { λ s _ ws _. entries_lacked ws (length s.entries.now) };
 
-    fn lacks(&self, ring: Ring) -> Option<Refusal> {
+    fn suffices(&self, ring: Ring) -> Result<(), Refusal> {
         let takes = halves::room_for(ring.weights.len());
-        (takes > self.entries.len()).then_some(Refusal::Room(takes as u64))
+        Refusal::unless_room(takes, self.entries.len())
     }
 
     fn best(&mut self, ring: Ring) -> Option<Bag> {
@@ -51,9 +51,9 @@ impl<'a> Finder for Halves<'a> {
 impl<'a> Finder for Table<'a> {
     ghost lacks = { λ s r ws as'. bytes_lacked r ws as' (length s.bytes.now) };
 
-    fn lacks(&self, ring: Ring) -> Option<Refusal> {
+    fn suffices(&self, ring: Ring) -> Result<(), Refusal> {
         let takes = table::room_for(ring);
-        (takes > self.bytes.len()).then_some(Refusal::Room(takes as u64))
+        Refusal::unless_room(takes, self.bytes.len())
     }
 
     fn best(&mut self, ring: Ring) -> Option<Bag> {

@@ -17,7 +17,8 @@ fn worth(bounds: Bounds, entry: u64) -> bool
 }
 
 // Moves what is kept of the entries to the front; gives how many there are. It reads and writes one slice, which no method does,
-// so it goes by index.
+// so it goes by index. The sieve of `sieves` takes the same walk with a test by a table and no branch; a closure for the test
+// would ask for as many clauses as the walk has lines.
 fn sieve(es: &mut [u64], bounds: Bounds) -> usize
     requires { Rises es.old (length es.old) }
     ensures sieved { Sieved bounds es.old es.new (length es.old) result }

@@ -6,7 +6,8 @@ use Rattle.std.proofs.lemmas.Bool.{leb-true, eqb-true, eq-eqb, and_parts, lt-leb
 use Rattle.packing.specs.Laws.{RefusalsAreExact}
 use Rattle.answers.specs.declared.refusal.Refusal.TheVariants.{Rule as RuleRefused, Pans, Number}
 use Rattle.answers.specs.declared.refusal.Refusal.{Refusal}
-use Rattle.packing.specs.Refusals.{Accepted, Ready, or_else, first_above, rule_fault, pans_fault, rule_refusal, pans_refusal, numbers_refusal, first_refusal, passed}
+use Rattle.packing.specs.Refusals.{Accepted, Ready, or_else, first_above, rule_fault, pans_fault, rule_refusal, pans_refusal, numbers_refusal, first_refusal}
+use Rattle.answers.specs.Refusals.{passed}
 use Rattle.choices.specs.Ruled.{rule_in}
 
 pub first_above_append : (m i : ℕ) (xs ys : List ℕ) → first_above m i (xs ++ ys) ≡ or_else (first_above m i xs) (first_above m (i + length xs) ys)

@@ -6,14 +6,14 @@
 --                  3: a weight or an age is above 1,000,000
 --   room_refusal   after these, 5: the lent room has fewer entries than the ring's halves take
 --                  (4 is for texts that can't be read)
---   passed         what was asked for, where nothing is turned away, or why it is
 --   Ready          a rule and pans of which nothing is turned away, the rule as one
-use Rattle.std.specs.Prelude.{◌≡◌, ℕ, ◌+◌, ◌≤◌, min, cond, ◌&&◌, List, [], ◌∷◌, ◌++◌, length, Some, None, Option, Ok, Err, Result, ◌==◌, nat_le, slice_index}
+use Rattle.std.specs.Prelude.{◌≡◌, ℕ, ◌+◌, ◌≤◌, min, cond, ◌&&◌, List, [], ◌∷◌, ◌++◌, length, Some, None, Option, ◌==◌, nat_le, slice_index}
 use Rattle.std.specs.Option.{option_map}
 use Rattle.choices.specs.declared.rule.Rule.{Rule}
 use Rattle.halves.specs.Next.{room_for}
+use Rattle.answers.specs.Refusals.{lacked}
 use Rattle.answers.specs.declared.refusal.Refusal.{Refusal}
-use Rattle.answers.specs.declared.refusal.Refusal.TheVariants.{Rule as RuleRefused, Pans, Number, Room}
+use Rattle.answers.specs.declared.refusal.Refusal.TheVariants.{Rule as RuleRefused, Pans, Number}
 
 -- the first of two, where there is one
 abbrev pub or_else : {X : Type 0} → Option X → Option X → Option X
@@ -47,11 +47,7 @@ abbrev pub first_refusal : (rule weights ages : List ℕ) → Option Refusal
 first_refusal rs ws as' = or_else (rule_refusal rs) (or_else (pans_refusal (length ws) (length as')) (numbers_refusal (ws ++ as')))
 
 abbrev pub room_refusal : (rule weights ages : List ℕ) → (entries : ℕ) → Option Refusal
-room_refusal rs ws as' m = or_else (first_refusal rs ws as') (cond (nat_le (room_for (length ws)) m) None (Some (Room (room_for (length ws)))))
-
-abbrev pub passed : {X : Type 0} → Option Refusal → X → Result X Refusal
-passed None x = Ok x
-passed (Some f) x = Err f
+room_refusal rs ws as' m = or_else (first_refusal rs ws as') (lacked (room_for (length ws)) m)
 
 pub record Accepted (rs ws as' : List ℕ) : Type 0 where
   pub four : length rs ≡ 4

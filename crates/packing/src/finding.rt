@@ -24,8 +24,6 @@ pub fn find<'a, F: Finder>(
         weights,
         ages,
     };
-    match finder.lacks(ring) {
-        Some(refusal) => Err(refusal),
-        None => Ok(finder.best(ring)),
-    }
+    finder.suffices(ring)?;
+    Ok(finder.best(ring))
 }

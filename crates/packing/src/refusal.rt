@@ -1,7 +1,8 @@
 // The checks of a rule and of lent pans, in the order of the list of refusals.
 ghost use Rattle.std.specs.Prelude.{◌≡◌, ◌+◌, ◌^◌, ◌<◌, ◌≤◌, ◌++◌, length, OnOk};
+ghost use Rattle.answers.specs.Refusals.{passed};
 ghost use Rattle.choices.specs.Ruled.{rule_in};
-ghost use Rattle.packing.specs.Refusals.{Accepted, first_above, first_refusal, numbers_refusal, pans_refusal, passed, room_refusal, rule_refusal};
+ghost use Rattle.packing.specs.Refusals.{Accepted, first_above, first_refusal, numbers_refusal, pans_refusal, room_refusal, rule_refusal};
 
 use answers::Refusal;
 use choices::Rule;
@@ -86,9 +87,6 @@ pub fn checked_in(
     ensures taken { OnOk result (Accepted rule.now weights.now ages.now) }
 {
     let rule = checked(rule, weights, ages)?;
-    let takes = room_for(weights.len());
-    if entries < takes {
-        return Err(Refusal::Room(takes as u64));
-    }
+    Refusal::unless_room(room_for(weights.len()), entries)?;
     Ok(rule)
 }

@@ -6,18 +6,10 @@ use crate::criterion::Criterion;
 
 // How far a search has come: every candidate below `next` is done with, and `best` is the best of them. That is a fact by
 // cases of `best`, which a type could hold only truncated, so the functions ask for it in full.
-#[derive(Clone, Copy)]
+#[derive(Clone, Copy, Default)]
 pub struct Progress {
     pub next: u64,
     pub best: Option<u64>,
-}
-
-impl Progress {
-    // What a `Default` would give, under a name.
-    pub const START: Progress = Progress {
-        next: 0,
-        best: None,
-    };
 }
 
 // The best of what was done with before and the candidate k.
@@ -82,5 +74,5 @@ pub fn advance<C: Criterion>(criterion: &C, from: Progress, steps: u64) -> Progr
 pub fn search<C: Criterion>(criterion: &C) -> Option<u64>
     ensures { Sought (C.Criterion.allows criterion.now) (C.Criterion.beats criterion.now) (C.Criterion.count criterion.now) result }
 {
-    advance(criterion, Progress::START, criterion.count()).best
+    advance(criterion, Progress::default(), criterion.count()).best
 }

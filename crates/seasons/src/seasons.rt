@@ -1,7 +1,8 @@
 // Seasons: bag after bag, with handfuls of a list falling into the empty pans after each.
 ghost use Rattle.std.specs.Prelude.{◌≡◌, ℕ, ◌+◌, ◌*◌, ◌≤◌, OnOk, slice_index};
 ghost use Rattle.choices.specs.Ruled.{rule_in};
-ghost use Rattle.packing.specs.Refusals.{Accepted, Ready, passed};
+ghost use Rattle.answers.specs.Refusals.{passed};
+ghost use Rattle.packing.specs.Refusals.{Accepted, Ready};
 ghost use Rattle.seasons.specs.Season.{Keeps, Plays, Seasoned, season_refusal};
 
 use crate::handfuls::refill;

@@ -31,9 +31,7 @@ fn by_entry<E: FnOnce(&mut [u32], &mut [u32]) -> Answer>(case: &Case, entry: E) 
 fn by_engine<F: Finder>(case: &Case, finder: &mut F) -> Option<Answer> {
     let weights = case.weights();
     let ages = case.ages();
-    if checked(&case.rule, weights, ages).is_err() {
-        return None;
-    }
+    checked(&case.rule, weights, ages).ok()?;
     Some(find(&case.rule, weights, ages, finder))
 }
 
@@ -43,7 +41,7 @@ fn suits_the_table(case: &Case) -> bool {
     target.saturating_add(above) <= TABLE_WEIGHT
 }
 
-// The entry over lent rooms.
+// The entry over lent rooms. Entries and bytes are lent one by one, since the engines are tried with one of them each.
 fn by_entry_in(case: &Case, entries: &mut [u64], bytes: &mut [u8]) -> Outcome {
     let mut rooms = Rooms { entries, bytes };
     by_entry(case, |weights, ages| {

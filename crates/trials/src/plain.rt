@@ -1,13 +1,11 @@
 // What a bag is, in the plainest way: every choice is tried, pan i is bit i, and nothing is left out.
-ghost use Rattle.trials.specs.Same.{SameWithoutABag};
+ghost use Rattle.trials.specs.Same.{NoRoomLacked, SameWithoutABag};
 
-use crate::case::Case;
+use crate::case::{Case, LIMIT};
 use crate::outcome::{Answer, Outcome};
 use order::Bag;
 use packing::Refusal;
 use std::cmp::Reverse;
-
-const LIMIT: u32 = 1_000_000;
 
 // A choice that fits: the lighter one comes first; of equal ones that with fewer pans; of these that which opens the first
 // pan in which they differ, which is the larger one read from pan 0 on.
@@ -54,19 +52,20 @@ fn best(case: &Case) -> Option<Candidate> {
 }
 
 // Which refusal applies: these cases have four numbers in a rule, 1 to 12 pans and an age for each.
-fn refusal(case: &Case) -> Option<Refusal> {
+fn check(case: &Case) -> Result<(), Refusal>
+    ensures { NoRoomLacked result }
+{
     if let Some(place) = case.rule.iter().position(|number| *number > LIMIT) {
-        return Some(Refusal::Rule(place as u64));
+        return Err(Refusal::Rule(place as u64));
     }
     if case.rule[0] == 0 {
-        return Some(Refusal::Rule(0));
+        return Err(Refusal::Rule(0));
     }
-    let place = case
-        .weights()
-        .iter()
-        .chain(case.ages())
-        .position(|number| *number > LIMIT)?;
-    Some(Refusal::Number(place as u64))
+    let mut numbers = case.weights().iter().chain(case.ages());
+    match numbers.position(|number| *number > LIMIT) {
+        Some(place) => Err(Refusal::Number(place as u64)),
+        None => Ok(()),
+    }
 }
 
 // What is answered, and what the pans hold afterwards.
@@ -95,10 +94,10 @@ pub fn all_tried(case: &Case) -> Outcome
     }
 }
 
-fn answer(case: &Case) -> Answer {
-    if let Some(refusal) = refusal(case) {
-        return Err(refusal);
-    }
+fn answer(case: &Case) -> Answer
+    ensures { NoRoomLacked result }
+{
+    check(case)?;
     Ok(best(case).map(|found| Bag {
         pans: found.opened,
         weight: found.weight,

@@ -1,9 +1,7 @@
 // Random cases: of ties, of the trade's weights and of heavy ones, with empty and old pans, and now and then a wrong number.
 ghost use Rattle.std.specs.Prelude.{◌≡◌, ◌≤◌};
 
-use crate::case::{Case, MOST};
-
-const LIMIT: u32 = 1_000_000;
+use crate::case::{Case, LIMIT, MOST};
 
 // Numbers that look random and are the same in every run.
 #[derive(Drop)]
