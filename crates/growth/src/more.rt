@@ -6,7 +6,8 @@ use crate::job::Merge;
 use crate::merges::merge;
 use crate::pan::Pan;
 
-// How many of the entries stay below the bound with the gain.
+// How many of the entries stay below the bound with the gain. That they rise is asked for, here and where they are sieved: a type
+// for a slice that rises would be made at one call and taken apart at the next.
 fn below(es: &[u64], gain: u64, to: u64) -> usize
     requires { Rises es.now (length es.now) }
     ensures { Below es.now (length es.now) gain to result }

@@ -28,7 +28,7 @@ fn told(rule: Rule, bags: u32, weight: u64, ended_early: bool) -> Played
     }
 }
 
-// Plays the bags of a season whose numbers are in order.
+// Plays the bags of a season whose numbers are in order, which is asked for as `pack` asks for it.
 fn play(
     rule: Rule,
     weights: &mut [u32],

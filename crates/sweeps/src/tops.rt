@@ -1,6 +1,7 @@
 // The least sum of a top and an entry of each list within a limit of pans. Where there is none the bound `to` is answered: a
 // minimum starts from it anyway, and an `Option` would be tested at each step. The bounds `from` and `to` stay two parameters, since
-// each moves without the other: the first with each try, the second with what was found.
+// each moves without the other: the first with each try, the second with what was found; and that there are at most four tops
+// is asked for, since a type for so many would be made here and taken apart at once.
 ghost use Rattle.std.specs.Prelude.{ℕ, ◌^◌, ◌<◌, ◌≤◌, length, slice_index};
 ghost use Rattle.sweeps.specs.Sweep.{Apart, LeastOf, Together, Whatever};
 

@@ -34,7 +34,8 @@ impl Table<'_, '_> {
         (from..self.span + 1).find(|x| self.bytes[top + *x] <= limit)
     }
 
-    // The pans of the choice that makes a weight, as the number that is answered.
+    // The pans of the choice that makes a weight, as the number that is answered. It goes down the rows by their width, a
+    // subtraction for each free pan.
     pub fn read(self, weight: usize) -> u32
         requires rows { Rows self.ring.rule.age self.ring.weights.now self.ring.ages.now self.span (row_bytes self.span) 0 self.bytes.now }
         requires within { weight ≤ self.span }
