@@ -6,25 +6,16 @@ use Rattle.choices.specs.Choice.{Choice, weight_of, opened, none_empty, keeps_ol
 use Rattle.choices.specs.declared.rule.Rule.{Rule}
 use Rattle.choices.proofs.Choices.{Fitting, fitting, fits_from}
 use Rattle.order.specs.Order.{better, first_more, NoneOf, BestBag}
-use Rattle.table.specs.Pans.{due_weight, due_pans, free_weight, free_pans, none_due_empty, span_of, row_bytes, table_bytes}
-use Rattle.table.specs.Rows.{Makes, Row, Rows, Read, Lightest, LightestAt}
+use Rattle.table.specs.Pans.{due_weight, due_pans, free_weight, free_at, none_due_empty, span_of, pairs_of, pad_of, width_of, row_bytes, table_bytes}
+use Rattle.table.specs.Rows.{Makes, Reaches, Row, Rows, Read, Lightest, LightestAt, row_at}
 use Rattle.table.specs.Surveyed.{Surveyed}
 use Rattle.table.specs.declared.survey.Survey.{Survey}
-use Rattle.table.proofs.Making.{due_le}
-use Rattle.table.proofs.Surveying.{span_is}
+use Rattle.table.proofs.Making.{due_le, held_le, opened_le, weight_le}
+use Rattle.table.proofs.Joining.{pad_reaches}
+use Rattle.table.proofs.Surveying.{heaviest_is, span_is}
+use Rattle.table.proofs.Filling.{rows_all}
 
 -- ---- what any choice has
-
-pub held_le : (old : ℕ) (as' : List ℕ) (cs : Choice) → length cs ≡ length as' → keeps_old old as' cs ≡ true → due_pans old as' ≤ opened cs
-held_le old [] cs e h = omega arith
-held_le old (a ∷ as') [] e h = absurd (omega arith)
-held_le old (a ∷ as') (true ∷ cs) e h = omega (arith, one (ltb a old), held_le old as' cs (omega arith) h)
-  where
-    one : (b : Bool) → cond b 0 1 ≤ 1
-    one true = omega arith
-    one false = omega arith
-held_le old (a ∷ as') (false ∷ cs) e h =
-    let p = and_parts (ltb a old) (keeps_old old as' cs) h in rw p.0 (omega (arith, held_le old as' cs (omega arith) p.1))
 
 pub none_due_from :
     (old : ℕ) (ws as' : List ℕ) (cs : Choice) → length cs ≡ length ws → none_empty ws cs ≡ true → keeps_old old as' cs ≡ true → none_due_empty old ws as' ≡ true
@@ -37,22 +28,6 @@ none_due_from old (w ∷ ws) (a ∷ as') (true ∷ cs) e f h =
 none_due_from old (w ∷ ws) (a ∷ as') (false ∷ cs) e f h =
     let p = and_parts (ltb a old) (keeps_old old as' cs) h in
     rw p.0 (none_due_from old ws as' cs (omega arith) f p.1)
-
-opened_le : (cs : Choice) → opened cs ≤ length cs
-opened_le [] = omega arith
-opened_le (true ∷ cs) = omega (arith, opened_le cs)
-opened_le (false ∷ cs) = omega (arith, opened_le cs)
-
-weight_le : (old : ℕ) (ws as' : List ℕ) (cs : Choice) → length as' ≡ length ws → weight_of ws cs ≤ due_weight old ws as' + free_weight old ws as'
-weight_le old [] as' cs e = omega arith
-weight_le old (w ∷ ws) [] cs e = absurd (omega arith)
-weight_le old (w ∷ ws) (a ∷ as') [] e = omega arith
-weight_le old (w ∷ ws) (a ∷ as') (c ∷ cs) e = omega (arith, weight_le old ws as' cs (omega arith), split c (ltb a old))
-  where
-    split : (c b : Bool) → cond c w 0 ≤ cond b 0 w + cond b w 0
-    split true true = omega arith
-    split true false = omega arith
-    split false b = omega arith
 
 -- ---- what a choice that fits has
 
@@ -103,7 +78,7 @@ pub record Window (r : Rule) (ws as' : List ℕ) (most start from limit : ℕ) (
   pub held : due_pans r.age as' ≤ r.pans
   pub due : due_weight r.age ws as' ≤ r.target + r.above
   pub span : most ≡ span_of r ws as'
-  pub row : Row r.age ws as' most start bytes
+  pub row : Row r.age ws as' from most (row_at bytes start)
   pub enough : from ≡ r.target - due_weight r.age ws as'
   pub few : limit ≡ min (r.pans - due_pans r.age as') 254
 
@@ -112,7 +87,7 @@ missed :
     {r : Rule} {ws as' : List ℕ} {most start from limit : ℕ} {bytes : List ℕ} {y : ℕ} {cs : Choice} → Window r ws as' most start from limit bytes →
     Wanted r ws as' y cs → limit < get_or bytes (start + y) 0 → ⊥
 missed {y = y} {cs = cs} t w more =
-    let low = (t.row.least y (omega (arith, t.span, w.within))).low cs w.makes in omega (arith, low, w.few, w.small, t.small, t.few)
+    let low = (t.row.least y (omega (arith, t.enough, w.enough)) (omega (arith, t.span, w.within))).low cs w.makes in omega (arith, low, w.few, w.small, t.small, t.few)
 
 pub none_found :
     {r : Rule} {ws as' : List ℕ} {most start from limit : ℕ} {bytes : List ℕ} → Window r ws as' most start from limit bytes →
@@ -139,7 +114,7 @@ best_found {r} {ws} {as'} {most} {start} {from} {limit} {x} {number} {bytes} t h
     }
   where
     some : (es : Choice) × Makes r.age ws as' x es × (opened es ≡ due_pans r.age as' + get_or bytes (start + x) 0)
-    some = (t.row.least x h.within).some (omega (arith, h.few, t.few))
+    some = (t.row.least x h.enough h.within).some (omega (arith, h.few, t.few))
 
     fitted : Fitting r ws as' c.choice
     fitted =
@@ -175,17 +150,17 @@ best_found {r} {ws} {as'} {most} {start} {from} {limit} {x} {number} {bytes} t h
 -- ---- what the look over the ring tells of all this
 
 pub rows_fit :
-    (r : Rule) {ws as' : List ℕ} {s : Survey} {most long : ℕ} → Surveyed r.age ws as' s → most ≡ min (r.target + r.above - s.due) s.free →
-    table_bytes r ws as' ≤ long → row_bytes most * (free_pans r.age ws as' + 1) ≤ long
-unfolding table_bytes
-rows_fit r {ws} {as'} {s} h is enough = rw (is ∙ span_is r ws as' s h) enough
+    (r : Rule) {ws as' : List ℕ} {s : Survey} {most pad width long : ℕ} → Surveyed r.age ws as' s → most ≡ min (r.target + r.above - s.due) s.free →
+    pad ≡ pad_of most s.heaviest → width ≡ width_of most → table_bytes r ws as' ≤ long → (pad + width) * (pairs_of (length ws) + 1) ≤ long
+unfolding table_bytes row_bytes
+rows_fit r {ws} {as'} {s} h is first wide enough = rw (first, wide, is ∙ span_is r ws as' s h, h.heavy) enough
 
 pub window :
-    {r : Rule} {ws as' : List ℕ} {s : Survey} {most from limit : ℕ} {bytes : List ℕ} → Surveyed r.age ws as' s →
+    {r : Rule} {ws as' : List ℕ} {s : Survey} {most top from pad wide limit : ℕ} {bytes : List ℕ} → Surveyed r.age ws as' s →
     (s.ready && (leb s.held r.pans && leb s.due (r.target + r.above))) ≡ true → length as' ≡ length ws → length ws ≤ 24 →
-    most ≡ min (r.target + r.above - s.due) s.free → Rows r.age ws as' most (row_bytes most) 0 bytes →
-    from ≡ r.target - s.due → limit ≡ min (r.pans - s.held) 254 → Window r ws as' most (row_bytes most * s.rows) from limit bytes
-window {r} {ws} {as'} {s} h test paired small is rows enough few =
+    most ≡ min (r.target + r.above - s.due) s.free → most ≤ top → Rows r.age ws as' from top pad wide 0 bytes →
+    from ≡ r.target - s.due → limit ≡ min (r.pans - s.held) 254 → Window r ws as' most (pad + wide * pairs_of (length ws)) from limit bytes
+window {r} {ws} {as'} {s} h test paired small is within rows enough few =
     let p = and_parts s.ready _ test in
     let q = and_parts (leb s.held r.pans) _ p.1 in
     record {
@@ -194,7 +169,22 @@ window {r} {ws} {as'} {s} h test paired small is rows enough few =
       held = omega (arith, leb-true s.held r.pans q.0, h.held);
       due = omega (arith, leb-true s.due (r.target + r.above) q.1, h.due);
       span = is ∙ span_is r ws as' s h;
-      row = rw h.rows (rows.row 0 (omega arith) (omega arith));
+      row = record { least = λ x low high. (rows_all rows).least x low (omega arith) };
       enough = omega (arith, h.due);
       few = omega (arith, h.held);
     }
+
+-- two pans reach back no further than the bytes in front of a row, or no weight of it does
+pub reaches :
+    {old : ℕ} {ws as' : List ℕ} {s : Survey} (most : ℕ) {pad width : ℕ} → Surveyed old ws as' s → length as' ≡ length ws → pad ≡ pad_of most s.heaviest → width ≡ width_of most →
+    Reaches old ws as' pad width
+reaches {old} {ws} {as'} {s} most h paired is wide = λ i less.
+    let first = heaviest_is old ws as' i paired in
+    let second = heaviest_is old ws as' (i + 1) paired in
+    let far = pad_reaches most s.heaviest (free_at old ws as' i) (free_at old ws as' (i + 1)) (omega (arith, first, h.heavy)) (omega (arith, second, h.heavy)) (omega (arith, less, is)) in
+    omega (arith, far, is, wide)
+
+-- rows for all weights that matter to a window are rows for those that matter to a weight in it
+pub rows_from :
+    {old : ℕ} {ws as' : List ℕ} {from most pad wide x : ℕ} {bytes : List ℕ} → Rows old ws as' from most pad wide 0 bytes → from ≤ x → Rows old ws as' x most pad wide 0 bytes
+rows_from h more = record { row = λ i low high. record { least = λ y enough within. (h.row i low high).least y (omega arith) within }; blank = h.blank }

@@ -1,89 +1,27 @@
--- Rows that are filled from the last pan to the first: what one row more keeps and adds.
-use Rattle.std.proofs.Common.{◌≡◌, ℕ, zero, suc, ◌+◌, ◌-◌, ◌*◌, ◌<◌, ◌≤◌, min, true, false, ◌&&◌, ◌||◌, ltb, leb, ◌⊎◌, List, [], ◌∷◌, length, get_or, drop, sym, refl, ◌∙◌, ◌++◌, append_assoc, length-append, inl, inr, mul-le-mul_left, mul-one, mul-add, arith}
-use Rattle.std.proofs.lemmas.List.{drop-drop, drop_all, drop_more, get_or_at}
-use Rattle.std.proofs.lemmas.Bool.{cases_lt, and_parts, both_ways, le-ltb, lt-ltb, le-leb, lt-leb}
-use Rattle.choices.specs.Choice.{bit}
-use Rattle.table.specs.Pans.{free_pans, none_due_empty}
-use Rattle.table.specs.Rows.{Least, Row, Rows}
-use Rattle.table.proofs.Making.{least_due, least_barred, least_both, least_nothing, least_never}
+-- Rows that are filled from the last two pans to the first: what one row more keeps and adds.
+use Rattle.std.proofs.Common.{◌≡◌, ℕ, zero, suc, ◌+◌, ◌-◌, ◌*◌, ◌<◌, ◌≤◌, Bool, true, false, cond, ◌||◌, ltb, leb, ◌≢◌, ◌⊎◌, List, [], ◌∷◌, length, get_or, drop, sym, refl, ◌∙◌, length-drop, min, inl, inr, mul-le-mul_left, mul-one, mul-add, arith}
+use Rattle.std.proofs.lemmas.List.{drop_all, drop_more, get_or_past}
+use Rattle.std.proofs.lemmas.Bool.{cases_lt, and_parts, both_ways, leb-false}
+use Rattle.table.specs.Pans.{free_weight, free_at, free_before, none_due_empty, pairs_of}
+use Rattle.table.specs.Rows.{Least, Row, Rows, joined, row_at}
+use Rattle.table.proofs.Joining.{back_far, back_near, joined_nothing}
+use Rattle.table.proofs.Making.{least_due, least_barred, least_both, least_cap, least_heavy, least_nothing, least_never}
 
-free_drop_le : (old : ℕ) (j : ℕ) (ws as' : List ℕ) → free_pans old (drop j ws) (drop j as') ≤ free_pans old ws as'
+free_drop_le : (old : ℕ) (j : ℕ) (ws as' : List ℕ) → free_weight old (drop j ws) (drop j as') ≤ free_weight old ws as'
 free_drop_le old zero ws as' = omega arith
 free_drop_le old (suc j) [] as' = omega arith
 free_drop_le old (suc j) (w ∷ ws) [] = none (drop j ws)
   where
-    none : (us : List ℕ) → free_pans old us [] ≤ 0
+    none : (us : List ℕ) → free_weight old us [] ≤ 0
     none [] = omega arith
     none (u ∷ us) = omega arith
 free_drop_le old (suc j) (w ∷ ws) (a ∷ as') = omega (arith, free_drop_le old j ws as')
 
--- the fewer pans are left, the fewer of them are free
-pub free_drop : (old : ℕ) (ws as' : List ℕ) (i j : ℕ) → i ≤ j → free_pans old (drop j ws) (drop j as') ≤ free_pans old (drop i ws) (drop i as')
-free_drop old ws as' i j h =
-    let e : i + (j - i) ≡ j = omega arith in
-    let le = free_drop_le old (j - i) (drop i ws) (drop i as') in
-    rw (drop-drop (j - i) i ws, drop-drop (j - i) i as', e) at le
+cond_same : (b : Bool) (n : ℕ) → cond b n n ≡ n
+cond_same true n = refl
+cond_same false n = refl
 
-row_same :
-    {old : ℕ} {ws as' : List ℕ} {most start : ℕ} {bytes bytes' : List ℕ} → Row old ws as' most start bytes →
-    ((j : ℕ) → j ≤ start + most → get_or bytes' j 0 ≡ get_or bytes j 0) → Row old ws as' most start bytes'
-row_same {start = start} h same = record { least = λ x low. rw (same (start + x) (omega arith)) (h.least x low) }
-
-row_due :
-    {old w a : ℕ} {ws as' : List ℕ} {most start : ℕ} {bytes : List ℕ} → ltb a old ≡ false → leb 1 w ≡ true →
-    Row old ws as' most start bytes → Row old (w ∷ ws) (a ∷ as') most start bytes
-row_due e f h = record { least = λ x low. least_due e f (h.least x low) }
-
-row_idle :
-    {old w a : ℕ} {ws as' : List ℕ} {most start : ℕ} {bytes : List ℕ} → ltb a old ≡ true → (leb 1 w ≡ true → ⊥) →
-    Row old ws as' most start bytes → Row old (w ∷ ws) (a ∷ as') most start bytes
-row_idle e f h = record { least = λ x low. least_barred e (λ g _. f g) (h.least x low) }
-
-row_free :
-    {old w a : ℕ} {ws as' : List ℕ} {most start next : ℕ} {bytes bytes' : List ℕ} → ltb a old ≡ true → leb 1 w ≡ true →
-    Row old ws as' most start bytes →
-    ((x : ℕ) → x ≤ most → x < w → get_or bytes' (next + x) 0 ≡ get_or bytes (start + x) 0) →
-    ((x : ℕ) → x ≤ most → w ≤ x → get_or bytes' (next + x) 0 ≡ min (get_or bytes (start + x) 0) (min (get_or bytes (start + (x - w)) 0 + 1) 255)) →
-    Row old (w ∷ ws) (a ∷ as') most next bytes'
-row_free {old} {w} {a} {ws} {as'} {most} {start} {next} {bytes} {bytes'} e f h without with = record { least = λ x low. at x low (cases_lt x w) }
-  where
-    at : (x : ℕ) → x ≤ most → (x < w) ⊎ (w ≤ x) → Least old (w ∷ ws) (a ∷ as') x (get_or bytes' (next + x) 0)
-    at x low (inl less) = rw (without x low less) (least_barred e (λ g n. omega arith) (h.least x low))
-    at x low (inr heavy) = rw (with x low heavy) (least_both e f heavy (h.least x low) (h.least (x - w) (omega arith)))
-
--- the rows so far, and where the newest starts
-pub record Filling (old : ℕ) (ws as' : List ℕ) (most wide pan top : ℕ) (bytes : List ℕ) : Type 0 where
-  pub at : top ≡ wide * free_pans old (drop pan ws) (drop pan as')
-  pub rows : Rows old ws as' most wide pan bytes
-
-filling_none :
-    (old : ℕ) (ws as' : List ℕ) (most wide : ℕ) (bytes : List ℕ) → length as' ≡ length ws → get_or bytes 0 0 ≡ 0 →
-    ((x : ℕ) → 1 ≤ x → x < most + 1 → get_or bytes x 0 ≡ 255) → Filling old ws as' most wide (length ws) 0 bytes
-filling_none old ws as' most wide bytes paired none rest =
-    record { at = rw (drop_all (length ws) ws (omega arith)) (omega arith); rows = record { row = row } }
-  where
-    least : (x : ℕ) → x ≤ most → Least old [] [] x (get_or bytes (wide * 0 + x) 0)
-    least zero low = let e : wide * 0 + 0 ≡ 0 = omega arith in rw (e, none) least_nothing
-    least (suc x) low = let e : wide * 0 + suc x ≡ suc x = omega arith in rw (e, rest (suc x) (omega arith) (omega arith)) (least_never (suc x) (omega arith))
-
-    row : (i : ℕ) → length ws ≤ i → i ≤ length ws → Row old (drop i ws) (drop i as') most (wide * free_pans old (drop i ws) (drop i as')) bytes
-    row i low high = rw (drop_all i ws (omega arith), drop_all i as' (omega arith)) (record { least = least })
-
--- the newest row is another one, or the same, and the older ones stay
-rows_more :
-    {old : ℕ} {ws as' : List ℕ} {most wide pan top : ℕ} {bytes bytes' : List ℕ} → Filling old ws as' most wide (pan + 1) top bytes → most < wide →
-    ((j : ℕ) → j < top + wide → get_or bytes' j 0 ≡ get_or bytes j 0) →
-    Row old (drop pan ws) (drop pan as') most (wide * free_pans old (drop pan ws) (drop pan as')) bytes' → Rows old ws as' most wide pan bytes'
-rows_more {old} {ws} {as'} {most} {wide} {pan} {top} {bytes} {bytes'} h less same newest = record { row = λ i low high. at i high (cases_lt pan i) low }
-  where
-    at : (i : ℕ) → i ≤ length ws → (pan < i) ⊎ (i ≤ pan) → pan ≤ i → Row old (drop i ws) (drop i as') most (wide * free_pans old (drop i ws) (drop i as')) bytes'
-    at i high (inl later) low =
-        let few : free_pans old (drop i ws) (drop i as') ≤ free_pans old (drop (pan + 1) ws) (drop (pan + 1) as') = free_drop old ws as' (pan + 1) i (omega arith) in
-        row_same (h.rows.row i (omega arith) high) (λ j le. same j (omega (arith, h.at, mul-le-mul_left wide few)))
-    at i high (inr here) low = let e : i ≡ pan = omega arith in rw e newest
-
--- a pan that has to be opened is not empty
-none_due_at :
+pub none_due_at :
     (old : ℕ) (ws as' : List ℕ) (i : ℕ) → i < length ws → length as' ≡ length ws → none_due_empty old ws as' ≡ true →
     (ltb (get_or as' i 0) old || leb 1 (get_or ws i 0)) ≡ true
 none_due_at old [] as' i few paired h = absurd (omega arith)
@@ -92,115 +30,244 @@ none_due_at old (w ∷ ws) (a ∷ as') zero few paired h = (and_parts (ltb a old
 none_due_at old (w ∷ ws) (a ∷ as') (suc i) few paired h =
     none_due_at old ws as' i (omega arith) (omega arith) (and_parts (ltb a old || leb 1 w) (none_due_empty old ws as') h).1
 
--- ---- gone over from the back
+module _ (old : ℕ) (ws as' : List ℕ) (i : ℕ) (paired : length as' ≡ length ws) where
+  pub drop_weights : i < length ws → drop i ws ≡ get_or ws i 0 ∷ drop (i + 1) ws
+  drop_weights few = drop_more ws i 0 few
 
--- the front of a list
-pub record Front (us xs : List ℕ) : Type 0 where
-  pub rest : List ℕ
-  pub is : us ++ rest ≡ xs
+  pub drop_ages : i < length ws → drop i as' ≡ get_or as' i 0 ∷ drop (i + 1) as'
+  drop_ages few = drop_more as' i 0 (omega arith)
 
-front_less :
-    {us us' xs : List ℕ} {x : ℕ} → us ≡ us' ++ x ∷ [] → Front us xs → Front us' xs × (length us ≡ length us' + 1) × (length us' < length xs) × (get_or xs (length us') 0 ≡ x)
-front_less {us} {us'} {xs} {x} e h = (
-  record { rest = x ∷ h.rest; is = is },
-  rw e (omega (arith, length-append us' (x ∷ []))),
-  rw (← is) (omega (arith, length-append us' (x ∷ h.rest))),
-  rw (← is) (get_or_at us' x h.rest 0 (length us') refl),
-)
-  where
-    is : us' ++ x ∷ h.rest ≡ xs
-    is = sym (append_assoc us' (x ∷ []) h.rest) ∙ (rw e at h.is)
+  pub no_weights : length ws ≤ i → drop i ws ≡ []
+  no_weights past = drop_all i ws past
 
--- the pans in us and vs are left
-pub record Left (old : ℕ) (ws as' : List ℕ) (most wide : ℕ) (us vs : List ℕ) (top : ℕ) (bytes : List ℕ) : Type 0 where
-  pub paired : length vs ≡ length us
-  pub weights : Front us ws
-  pub ages : Front vs as'
-  pub filled : Filling old ws as' most wide (length us) top bytes
+  pub no_ages : length ws ≤ i → drop i as' ≡ []
+  no_ages past = drop_all i as' (omega arith)
 
--- the last of them is gone over, and leaves those before it
-pub record Next (old : ℕ) (ws as' : List ℕ) (most wide : ℕ) (us vs : List ℕ) (w a top : ℕ) (bytes : List ℕ) : Type 0 where
-  pub few : length us < length ws
-  pub weight : get_or ws (length us) 0 ≡ w
-  pub age : get_or as' (length us) 0 ≡ a
-  pub before : Filling old ws as' most wide (length us + 1) top bytes
-  pub after : {top' : ℕ} {bytes' : List ℕ} → Filling old ws as' most wide (length us) top' bytes' → Left old ws as' most wide us vs top' bytes'
+  pub free_past : length ws ≤ i → free_at old ws as' i ≡ 0
+  free_past past = rw (get_or_past ws i 0 past, cond_same (ltb (get_or as' i 0) old) 0) refl
 
-pub left_next :
-    {old : ℕ} {ws as' : List ℕ} {most wide : ℕ} {us vs us' vs' : List ℕ} {w a top : ℕ} {bytes : List ℕ} → Left old ws as' most wide us vs top bytes →
-    us ≡ us' ++ w ∷ [] → vs ≡ vs' ++ a ∷ [] → Next old ws as' most wide us' vs' w a top bytes
-left_next {us' = us'} {vs' = vs'} h e f =
-    let u = front_less e h.weights in
-    let v = front_less f h.ages in
-    let same : length vs' ≡ length us' = omega (arith, h.paired, u.1, v.1) in
-    record {
-      few = u.2;
-      weight = u.3;
-      age = rw same at v.3;
-      before = rw u.1 at h.filled;
-      after = λ more. record { paired = same; weights = u.0; ages = v.0; filled = more };
-    }
+  free_next : free_weight old (drop i ws) (drop i as') ≡ free_at old ws as' i + free_weight old (drop (i + 1) ws) (drop (i + 1) as')
+  free_next = at (cases_lt i (length ws))
+    where
+      at : (i < length ws) ⊎ (length ws ≤ i) → free_weight old (drop i ws) (drop i as') ≡ free_at old ws as' i + free_weight old (drop (i + 1) ws) (drop (i + 1) as')
+      at (inl few) = rw (drop_weights few, drop_ages few) refl
+      at (inr past) =
+          rw (no_weights past, drop_all (i + 1) ws (omega arith), free_past past) refl
 
-module _
-    {old most wide w a top : ℕ} {ws as' us vs bytes : List ℕ} (n : Next old ws as' most wide us vs w a top bytes) (paired : length as' ≡ length ws) (less : most < wide)
-  where
-    weights : drop (length us) ws ≡ w ∷ drop (length us + 1) ws
-    weights = rw n.weight at (drop_more ws (length us) 0 n.few)
+  -- the free pans before the next one
+  pub before_next : free_before old ws as' (i + 1) ≡ free_before old ws as' i + free_at old ws as' i
+  before_next = omega (arith, free_next, free_drop_le old i ws as')
 
-    ages : drop (length us) as' ≡ a ∷ drop (length us + 1) as'
-    ages = rw n.age at (drop_more as' (length us) 0 (omega (arith, n.few)))
+  pub before_le : free_before old ws as' i + free_at old ws as' i ≤ free_weight old ws as'
+  before_le = omega (arith, free_next, free_drop_le old i ws as')
 
-    free_next : free_pans old (drop (length us) ws) (drop (length us) as') ≡ bit (ltb a old && leb 1 w) + free_pans old (drop (length us + 1) ws) (drop (length us + 1) as')
-    free_next = rw (weights, ages)
+  -- a pan may be opened or stay shut; or the rows leave it out, and what they hold is the same with it
+  pub data Kind : Type 0 where
+    free : i < length ws → ltb (get_or as' i 0) old ≡ true → leb 1 (get_or ws i 0) ≡ true → free_at old ws as' i ≡ get_or ws i 0 → Kind
+    idle : free_at old ws as' i ≡ 0 →
+        ((x k : ℕ) → Least old (drop (i + 1) ws) (drop (i + 1) as') x k → Least old (drop i ws) (drop i as') x k) → Kind
 
-    older : Row old (drop (length us + 1) ws) (drop (length us + 1) as') most top bytes
-    older = rw n.before.at (n.before.rows.row (length us + 1) (omega arith) (omega (arith, n.few)))
+  pub kind : none_due_empty old ws as' ≡ true → Kind
+  kind ready = past_or (cases_lt i (length ws))
+    where
+      here : i < length ws → (b c : Bool) → ltb (get_or as' i 0) old ≡ b → leb 1 (get_or ws i 0) ≡ c → Kind
+      here few true true e f = free few e f (rw e refl)
+      here few true false e f = idle (rw e (omega (arith, leb-false 1 (get_or ws i 0) f))) (λ x k l. rw (drop_weights few, drop_ages few) (least_barred e (λ g _. both_ways _ f g) l))
+      here few false true e f = idle (rw e refl) (λ x k l. rw (drop_weights few, drop_ages few) (least_due e f l))
+      here few false false e f = let h = rw (e, f) at (none_due_at old ws as' i few paired ready) in absurd (both_ways false refl h)
 
-    -- a pan that has no row of its own
-    skip :
-        free_pans old (drop (length us) ws) (drop (length us) as') ≡ free_pans old (drop (length us + 1) ws) (drop (length us + 1) as') →
-        Row old (w ∷ drop (length us + 1) ws) (a ∷ drop (length us + 1) as') most top bytes → Left old ws as' most wide us vs top bytes
-    skip e row = n.after (record { at = place; rows = rows_more n.before less (λ j _. refl) (rw (← place) (rw (weights, ages) row)) })
-      where
-        place : top ≡ wide * free_pans old (drop (length us) ws) (drop (length us) as')
-        place = rw e n.before.at
+      past_or : (i < length ws) ⊎ (length ws ≤ i) → Kind
+      past_or (inl few) = here few (ltb (get_or as' i 0) old) (leb 1 (get_or ws i 0)) refl refl
+      past_or (inr past) =
+          idle (free_past past)
+          (λ x k l. rw (no_weights past, no_ages past) (rw (drop_all (i + 1) ws (omega arith), drop_all (i + 1) as' (omega arith)) at l))
 
-    pub left_skip : none_due_empty old ws as' ≡ true → ((a < old) × (w ≤ 0)) ⊎ (old ≤ a) → Left old ws as' most wide us vs top bytes
-    left_skip ready (inl (young, empty)) =
-        let e = lt-ltb a old young in
-        let f = lt-leb 1 w (omega arith) in
-        let k = rw (e, f) at free_next in
-        skip (omega arith) (row_idle e (λ g. both_ways _ f g) older)
-    left_skip ready (inr waited) =
-        let e = le-ltb a old waited in
-        let f = rw (n.weight, n.age) at (none_due_at old ws as' (length us) n.few paired ready) in
-        let k = rw e at free_next in
-        skip (omega arith) (row_due e (rw e at f) older)
-
-    module _ (young : a < old) (full : 0 < w) where
-      e : ltb a old ≡ true
-      e = lt-ltb a old young
-
-      f : leb 1 w ≡ true
-      f = le-leb 1 w (omega arith)
-
-      one_more : free_pans old (drop (length us) ws) (drop (length us) as') ≡ 1 + free_pans old (drop (length us + 1) ws) (drop (length us + 1) as')
-      one_more = rw (e, f) at free_next
-
-      -- there is room for its row
-      pub left_room : top + wide + wide ≤ wide * (free_pans old ws as' + 1)
-      left_room =
-          let m : free_pans old (drop (length us + 1) ws) (drop (length us + 1) as') + 1 ≤ free_pans old ws as' = omega (arith, one_more, free_drop_le old (length us) ws as') in
-          omega
-          (arith, mul-add wide (free_pans old (drop (length us + 1) ws) (drop (length us + 1) as')) 1, mul-add wide (free_pans old ws as') 1, mul-one wide, mul-le-mul_left wide m, n.before.at)
-
-      pub left_add :
-          {bytes' : List ℕ} → ((j : ℕ) → j < top + wide → get_or bytes' j 0 ≡ get_or bytes j 0) →
-          ((x : ℕ) → x ≤ most → x < w → get_or bytes' (top + wide + x) 0 ≡ get_or bytes (top + x) 0) →
-          ((x : ℕ) → x ≤ most → w ≤ x → get_or bytes' (top + wide + x) 0 ≡ min (get_or bytes (top + x) 0) (min (get_or bytes (top + (x - w)) 0 + 1) 255)) →
-          Left old ws as' most wide us vs (top + wide) bytes'
-      left_add same without with =
-          n.after (record { at = place; rows = rows_more n.before less same (rw (← place) (rw (weights, ages) (row_free e f older without with))) })
+  -- the row with one pan more in front
+  pub row_next :
+      (from : ℕ) {most : ℕ} {f : ℕ → ℕ} → none_due_empty old ws as' ≡ true →
+      Row old (drop (i + 1) ws) (drop (i + 1) as') (from - free_before old ws as' (i + 1)) most f →
+      Row old (drop i ws) (drop i as') (from - free_before old ws as' i) most (joined f (free_at old ws as' i))
+  row_next from {most} {f} ready h = record { least = λ x low high. at x low high (kind ready) }
+    where
+      at : (x : ℕ) → from - free_before old ws as' i ≤ x → x ≤ most → Kind → Least old (drop i ws) (drop i as') x (joined f (free_at old ws as' i) x)
+      at x low high (idle e goes) =
+          rw (e, joined_nothing f x) (least_cap (goes x (f x) (h.least x (omega (arith, before_next)) high)))
+      at x low high (free few young full lies) = rw lies (rw (drop_weights few, drop_ages few) (within (cases_lt x (get_or ws i 0))))
         where
-          place : top + wide ≡ wide * free_pans old (drop (length us) ws) (drop (length us) as')
-          place = rw one_more (omega (arith, mul-add wide 1 (free_pans old (drop (length us + 1) ws) (drop (length us + 1) as')), mul-one wide, n.before.at))
+          rest : Least old (drop (i + 1) ws) (drop (i + 1) as') x (f x)
+          rest = h.least x (omega (arith, before_next)) high
+
+          within : (x < get_or ws i 0) ⊎ (get_or ws i 0 ≤ x) → Least old (get_or ws i 0 ∷ drop (i + 1) ws) (get_or as' i 0 ∷ drop (i + 1) as') x (joined f (get_or ws i 0) x)
+          within (inl far) = rw (back_far f (get_or ws i 0) x far) (least_cap (least_barred young (λ g n. omega arith) rest))
+          within (inr near) =
+              rw (back_near f (get_or ws i 0) x near)
+              (least_both young full near rest (h.least (x - get_or ws i 0) (omega (arith, before_next, lies)) (omega arith)))
+
+pub row_same :
+    {old : ℕ} {ws as' : List ℕ} {from most : ℕ} {f g : ℕ → ℕ} → Row old ws as' from most f → ((x : ℕ) → from ≤ x → x ≤ most → g x ≡ f x) → Row old ws as' from most g
+row_same h same = record { least = λ x low high. rw (same x low high) (h.least x low high) }
+
+-- the rows so far, and where weight 0 stands in the newest
+pub record Filling (old : ℕ) (ws as' : List ℕ) (from most pad wide pair row before : ℕ) (bytes : List ℕ) : Type 0 where
+  pub at : row ≡ pad + wide * (pairs_of (length ws) - pair)
+  pub earlier : before ≡ free_before old ws as' (2 * pair)
+  pub rows : Rows old ws as' from most pad wide pair bytes
+
+pub filling_none :
+    (old : ℕ) (ws as' : List ℕ) (from most pad wide lies : ℕ) (bytes : List ℕ) → length as' ≡ length ws → pad + most < wide → lies ≡ free_weight old ws as' →
+    get_or bytes pad 0 ≡ 0 → ((x : ℕ) → x ≢ pad → x < wide → get_or bytes x 0 ≡ 255) → Filling old ws as' from most pad wide (pairs_of (length ws)) pad lies bytes
+filling_none old ws as' from most pad wide lies bytes paired less is none rest =
+    record {
+      at = let e : pairs_of (length ws) - pairs_of (length ws) ≡ 0 = omega arith in rw e (omega arith);
+      earlier = rw (no_weights old ws as' (2 * pairs_of (length ws)) paired (omega arith)) (omega arith);
+      rows = record {
+        row = row;
+        blank = λ i j low high few.
+            let e : pairs_of (length ws) - i ≡ 0 = omega arith in
+            let z : wide * 0 + j ≡ j = omega arith in
+            let ne : j ≢ pad = omega arith in
+            rw (e, z) (rest j ne (omega arith));
+      };
+    }
+  where
+    least : (x : ℕ) → x ≤ most → Least old [] [] x (get_or bytes (pad + x) 0)
+    least zero low = let z : pad + 0 ≡ pad = omega arith in rw (z, none) least_nothing
+    least (suc x) low = let ne : pad + suc x ≢ pad = omega arith in rw (rest (pad + suc x) ne (omega arith)) (least_never (suc x) (omega arith))
+
+    row :
+        (i : ℕ) → pairs_of (length ws) ≤ i → i ≤ pairs_of (length ws) →
+        Row old (drop (2 * i) ws) (drop (2 * i) as') (from - free_before old ws as' (2 * i)) most (row_at bytes (pad + wide * (pairs_of (length ws) - i)))
+    row i low high =
+        let e : pairs_of (length ws) - i ≡ 0 = omega arith in
+        let z : pad + wide * 0 ≡ pad = omega arith in
+        rw (no_weights old ws as' (2 * i) paired (omega arith), no_ages old ws as' (2 * i) paired (omega arith), e, z) (record { least = λ x _ most. least x most })
+
+-- a row more: the older ones stay
+pub filling_next :
+    {old : ℕ} {ws as' : List ℕ} {from most pad wide pair row before before' high : ℕ} {bytes bytes' : List ℕ} → length as' ≡ length ws → none_due_empty old ws as' ≡ true →
+    pair < pairs_of (length ws) → pad + most < wide → Filling old ws as' from most pad wide (pair + 1) row before bytes →
+    before ≡ before' + (free_at old ws as' (2 * pair) + free_at old ws as' (2 * pair + 1)) → ((x : ℕ) → high ≤ x → x ≤ most → free_weight old ws as' < before' + x) →
+    ((j : ℕ) → j < row + (wide - pad) → get_or bytes' j 0 ≡ get_or bytes j 0) → ((j : ℕ) → j < pad → get_or bytes' (row + (wide - pad) + j) 0 ≡ 255) →
+    ((x : ℕ) → from - before' ≤ x → x < high →
+    row_at bytes' (row + wide) x ≡ joined (joined (row_at bytes row) (free_at old ws as' (2 * pair + 1))) (free_at old ws as' (2 * pair)) x) →
+    ((x : ℕ) → high ≤ x → x ≤ most → row_at bytes' (row + wide) x ≡ 255) → Filling old ws as' from most pad wide pair (row + wide) before' bytes'
+filling_next {old} {ws} {as'} {from} {most} {pad} {wide} {pair} {row} {before} {before'} {high} {bytes} {bytes'} paired ready few less h is past same blank made never =
+    record { at = place; earlier = earlier; rows = record { row = λ i low high. at i high (cases_lt pair i) low; blank = λ i j low high short. front i j high short (cases_lt pair i) low } }
+  where
+    two : 2 * (pair + 1) ≡ 2 * pair + 1 + 1
+    two = omega arith
+
+    earlier : before' ≡ free_before old ws as' (2 * pair)
+    earlier =
+        let b : before ≡ free_before old ws as' (2 * pair + 1 + 1) = rw two at h.earlier in
+        omega (arith, b, is, before_next old ws as' (2 * pair + 1) paired, before_next old ws as' (2 * pair) paired)
+
+    more : wide * (pairs_of (length ws) - pair) ≡ wide * (pairs_of (length ws) - (pair + 1)) + wide
+    more =
+        let n : pairs_of (length ws) - pair ≡ pairs_of (length ws) - (pair + 1) + 1 = omega arith in
+        rw n (omega (arith, mul-add wide (pairs_of (length ws) - (pair + 1)) 1, mul-one wide))
+
+    place : row + wide ≡ pad + wide * (pairs_of (length ws) - pair)
+    place = omega (arith, h.at, more)
+
+    older : Row old (drop (2 * pair + 1 + 1) ws) (drop (2 * pair + 1 + 1) as') (from - free_before old ws as' (2 * pair + 1 + 1)) most (row_at bytes row)
+    older =
+        let r = h.rows.row (pair + 1) (omega arith) (omega arith) in
+        rw (sym h.at, two) at r
+
+    joined' :
+        Row old (drop (2 * pair) ws) (drop (2 * pair) as') (from - free_before old ws as' (2 * pair)) most
+        (joined (joined (row_at bytes row) (free_at old ws as' (2 * pair + 1))) (free_at old ws as' (2 * pair)))
+    joined' = row_next old ws as' (2 * pair) paired from ready (row_next old ws as' (2 * pair + 1) paired from ready older)
+
+    newest : Row old (drop (2 * pair) ws) (drop (2 * pair) as') (from - free_before old ws as' (2 * pair)) most (row_at bytes' (row + wide))
+    newest = record { least = λ x low top. either x low top (cases_lt x high) }
+      where
+        either :
+            (x : ℕ) → from - free_before old ws as' (2 * pair) ≤ x → x ≤ most → (x < high) ⊎ (high ≤ x) →
+            Least old (drop (2 * pair) ws) (drop (2 * pair) as') x (row_at bytes' (row + wide) x)
+        either x low top (inl below) = rw (made x (rw (sym earlier) at low) below) (joined'.least x low top)
+        either x low top (inr heavy) =
+            rw (never x heavy top) (least_heavy (rw (length-drop (2 * pair) ws, length-drop (2 * pair) as', paired) refl) (omega (arith, earlier, past x heavy top, free_drop_le old (2 * pair) ws as')))
+
+    at :
+        (i : ℕ) → i ≤ pairs_of (length ws) → (pair < i) ⊎ (i ≤ pair) → pair ≤ i →
+        Row old (drop (2 * i) ws) (drop (2 * i) as') (from - free_before old ws as' (2 * i)) most (row_at bytes' (pad + wide * (pairs_of (length ws) - i)))
+    at i top (inl later) low =
+        let fewer : pairs_of (length ws) - i ≤ pairs_of (length ws) - (pair + 1) = omega arith in
+        row_same (h.rows.row i (omega arith) top) (λ x _ most. same _ (omega (arith, h.at, mul-le-mul_left wide fewer)))
+    at i top (inr here) low = let e : i ≡ pair = omega arith in rw (e, sym place) newest
+
+    front : (i j : ℕ) → i ≤ pairs_of (length ws) → j < pad → (pair < i) ⊎ (i ≤ pair) → pair ≤ i → get_or bytes' (wide * (pairs_of (length ws) - i) + j) 0 ≡ 255
+    front i j top short (inl later) low =
+        let fewer : pairs_of (length ws) - i ≤ pairs_of (length ws) - (pair + 1) = omega arith in
+        same _ (omega (arith, h.at, mul-le-mul_left wide fewer)) ∙ h.rows.blank i j (omega arith) top short
+    front i j top short (inr here) low =
+        let e : i ≡ pair = omega arith in
+        let f : wide * (pairs_of (length ws) - pair) + j ≡ row + (wide - pad) + j = omega (arith, h.at, more) in
+        rw (e, f) (blank j short)
+
+-- what the next two pans weigh is among what the free pans before weigh
+pub filling_before :
+    {old : ℕ} {ws as' : List ℕ} {from most pad wide pair row before : ℕ} {bytes : List ℕ} → length as' ≡ length ws → 0 < pair →
+    Filling old ws as' from most pad wide pair row before bytes → free_at old ws as' (2 * (pair - 1)) + free_at old ws as' (2 * (pair - 1) + 1) ≤ before
+filling_before {old} {ws} {as'} {pair = pair} paired some h =
+    let two : 2 * pair ≡ 2 * (pair - 1) + 1 + 1 = omega arith in
+    let b = rw two at h.earlier in
+    omega (arith, b, before_next old ws as' (2 * (pair - 1) + 1) paired, before_next old ws as' (2 * (pair - 1)) paired)
+
+-- the same step as the code takes it
+pub filling_more :
+    {old : ℕ} {ws as' : List ℕ} {from most pad wide pair row before low high a b : ℕ} {bytes bytes' : List ℕ} → length as' ≡ length ws →
+    none_due_empty old ws as' ≡ true → 0 < pair → pair ≤ pairs_of (length ws) → pad + most < wide → Filling old ws as' from most pad wide pair row before bytes →
+    a ≡ free_at old ws as' (2 * (pair - 1)) → b ≡ free_at old ws as' (2 * (pair - 1) + 1) → low ≤ from - (before - (a + b)) →
+    ((x : ℕ) → high ≤ x → x ≤ most → free_weight old ws as' < before - (a + b) + x) →
+    ((j : ℕ) → j < row + (wide - pad) → get_or bytes' j 0 ≡ get_or bytes j 0) → ((j : ℕ) → j < pad → get_or bytes' (row + (wide - pad) + j) 0 ≡ 255) →
+    ((x : ℕ) → low ≤ x → x < high → row_at bytes' (row + wide) x ≡ joined (joined (row_at bytes row) b) a x) →
+    ((x : ℕ) → high ≤ x → x ≤ most → row_at bytes' (row + wide) x ≡ 255) → Filling old ws as' from most pad wide (pair - 1) (row + wide) (before - (a + b)) bytes'
+filling_more {old} {ws} {as'} {from} {most} {pad} {wide} {pair} {row} {before} {low} {high} {a} {b} {bytes} {bytes'} paired ready some few less h first second start past same blank made never =
+    filling_next paired ready (omega arith) less here (omega (arith, first, second, filling_before paired some h)) past same blank
+    (λ x enough below. rw (sym first, sym second) (made x (omega arith) below)) never
+  where
+    here : Filling old ws as' from most pad wide (pair - 1 + 1) row before bytes
+    here = let e : pair - 1 + 1 ≡ pair = omega arith in rw e h
+
+pub filling_free :
+    {old : ℕ} {ws as' : List ℕ} {from most pad wide pair row before : ℕ} {bytes : List ℕ} →
+    Filling old ws as' from most pad wide pair row before bytes → before ≤ free_weight old ws as'
+filling_free {old} {ws} {as'} h = omega (arith, h.earlier)
+
+pub filling_blank :
+    {old : ℕ} {ws as' : List ℕ} {from most pad wide pair row before : ℕ} {bytes : List ℕ} → Filling old ws as' from most pad wide pair row before bytes →
+    pair ≤ pairs_of (length ws) → (j : ℕ) → j < pad → get_or bytes (row - pad + j) 0 ≡ 255
+filling_blank {ws = ws} {pad = pad} {wide = wide} {pair} {row} h few j short =
+    let e : row - pad ≡ wide * (pairs_of (length ws) - pair) = omega (arith, h.at) in
+    rw e (h.rows.blank pair j (omega arith) few short)
+
+-- there is room for a row more wherever two pans are left
+pub filling_room :
+    {old : ℕ} {ws as' : List ℕ} {from most pad wide pair row before : ℕ} {bytes : List ℕ} → Filling old ws as' from most pad wide pair row before bytes → 0 < pair →
+    pair ≤ pairs_of (length ws) → row + wide + wide ≤ pad + wide * (pairs_of (length ws) + 1)
+filling_room {ws = ws} {wide = wide} {pair} h some few =
+    let m : pairs_of (length ws) - pair + 1 ≤ pairs_of (length ws) = omega arith in
+    omega (arith, mul-add wide (pairs_of (length ws) - pair) 1, mul-add wide (pairs_of (length ws)) 1, mul-one wide, mul-le-mul_left wide m, h.at)
+
+-- where the row of the pans behind two stands
+pub row_below : (pad wide pairs pair row : ℕ) → pair < pairs → row ≡ pad + wide * (pairs - pair) → (pad + wide ≤ row) × (row - wide ≡ pad + wide * (pairs - (pair + 1)))
+row_below pad wide pairs pair row few is =
+    let n : pairs - pair ≡ pairs - (pair + 1) + 1 = omega arith in
+    let e : row ≡ pad + wide * (pairs - (pair + 1) + 1) = rw n at is in
+    (omega (arith, e, mul-add wide (pairs - (pair + 1)) 1, mul-one wide), omega (arith, e, mul-add wide (pairs - (pair + 1)) 1, mul-one wide))
+
+pub row_inside : (pad wide pairs k x row long : ℕ) → k ≤ pairs → pad + x < wide → wide * (pairs + 1) ≤ long → row ≡ pad + wide * k → row + x < long
+row_inside pad wide pairs k x row long few less enough is = omega (arith, is, mul-le-mul_left wide few, mul-add wide pairs 1, mul-one wide)
+
+-- the row of all pans
+pub rows_all :
+    {old : ℕ} {ws as' : List ℕ} {from most pad wide : ℕ} {bytes : List ℕ} → Rows old ws as' from most pad wide 0 bytes →
+    Row old ws as' from most (row_at bytes (pad + wide * pairs_of (length ws)))
+rows_all {old} {ws} {as'} {from} {most} {pad} {wide} {bytes} h =
+    let all : pairs_of (length ws) - 0 ≡ pairs_of (length ws) = omega arith in
+    let none : from - free_before old ws as' 0 ≡ from = omega arith in
+    let r : Row old ws as' (from - free_before old ws as' 0) most (row_at bytes (pad + wide * (pairs_of (length ws) - 0))) = h.row 0 (omega arith) (omega arith) in
+    rw (all, none) at r

@@ -3,7 +3,7 @@ use Rattle.std.proofs.Common.{◌≡◌, ℕ, suc, ◌+◌, ◌-◌, ◌<◌, �
 use Rattle.std.proofs.lemmas.Bool.{and_parts, and_from, both_ways, cases_lt}
 use Rattle.choices.specs.Choice.{Choice, weight_of, opened, none_empty, keeps_old}
 use Rattle.order.specs.Order.{first_more}
-use Rattle.table.specs.Pans.{due_weight, due_pans}
+use Rattle.table.specs.Pans.{due_weight, due_pans, free_weight}
 use Rattle.table.specs.Rows.{Makes, Least, First}
 
 cond_le : (b : Bool) (w : ℕ) → cond b 0 w ≤ w
@@ -20,6 +20,33 @@ due_le old (w ∷ ws) (a ∷ as') (true ∷ cs) e h = omega (arith, cond_le (ltb
 due_le old (w ∷ ws) (a ∷ as') (false ∷ cs) e h =
     let p = and_parts (ltb a old) (keeps_old old as' cs) h in
     rw p.0 (omega (arith, due_le old ws as' cs (omega arith) p.1))
+
+pub held_le : (old : ℕ) (as' : List ℕ) (cs : Choice) → length cs ≡ length as' → keeps_old old as' cs ≡ true → due_pans old as' ≤ opened cs
+held_le old [] cs e h = omega arith
+held_le old (a ∷ as') [] e h = absurd (omega arith)
+held_le old (a ∷ as') (true ∷ cs) e h = omega (arith, one (ltb a old), held_le old as' cs (omega arith) h)
+  where
+    one : (b : Bool) → cond b 0 1 ≤ 1
+    one true = omega arith
+    one false = omega arith
+held_le old (a ∷ as') (false ∷ cs) e h =
+    let p = and_parts (ltb a old) (keeps_old old as' cs) h in rw p.0 (omega (arith, held_le old as' cs (omega arith) p.1))
+
+pub opened_le : (cs : Choice) → opened cs ≤ length cs
+opened_le [] = omega arith
+opened_le (true ∷ cs) = omega (arith, opened_le cs)
+opened_le (false ∷ cs) = omega (arith, opened_le cs)
+
+pub weight_le : (old : ℕ) (ws as' : List ℕ) (cs : Choice) → length as' ≡ length ws → weight_of ws cs ≤ due_weight old ws as' + free_weight old ws as'
+weight_le old [] as' cs e = omega arith
+weight_le old (w ∷ ws) [] cs e = absurd (omega arith)
+weight_le old (w ∷ ws) (a ∷ as') [] e = omega arith
+weight_le old (w ∷ ws) (a ∷ as') (c ∷ cs) e = omega (arith, weight_le old ws as' cs (omega arith), split c (ltb a old))
+  where
+    split : (c b : Bool) → cond c w 0 ≤ cond b 0 w + cond b w 0
+    split true true = omega arith
+    split true false = omega arith
+    split false b = omega arith
 
 -- what the first pan is to a choice, and what is left of the choice
 pub data Taken (old w a : ℕ) (ws as' : List ℕ) (x : ℕ) : Choice → Type 0 where
@@ -102,6 +129,23 @@ module _ {old w a : ℕ} {ws as' : List ℕ} {x k : ℕ} where
       some below (inl less) = let s = h.some (omega arith) in (false ∷ s.0, makes_shut e s.1, rw e (omega (arith, s.2)))
       some below (inr more) = let s = h'.some (omega arith) in (true ∷ s.0, makes_free e f heavy s.1, rw e (omega (arith, s.2)))
 
+-- a count of 255 or more says no more than 255
+pub least_cap : {old : ℕ} {ws as' : List ℕ} {x k : ℕ} → Least old ws as' x k → Least old ws as' x (min k 255)
+least_cap {k = k} h =
+    record {
+      low = λ cs m. omega (arith, h.low cs m);
+      some = λ below. let s = h.some (omega arith) in (s.0, s.1, omega (arith, s.2));
+    }
+
+-- no choice weighs more than all free pans do
+pub least_heavy : {old : ℕ} {ws as' : List ℕ} {x : ℕ} → length as' ≡ length ws → free_weight old ws as' < x → Least old ws as' x 255
+least_heavy {old} {ws} {as'} paired heavy =
+    record { low = λ cs m. absurd (omega (arith, m.weighs, weight_le old ws as' cs paired)); some = λ below. absurd (omega arith) }
+
+-- there is one least count, if any
+pub least_one : {old : ℕ} {ws as' : List ℕ} {x k m : ℕ} → Least old ws as' x k → Least old ws as' x m → m < 255 → k ≤ m
+least_one h h' below = let s = h'.some below in omega (arith, s.2, h.low s.0 s.1)
+
 -- no pan at all
 pub least_nothing : {old : ℕ} → Least old [] [] 0 0
 least_nothing = record { low = λ cs m. omega arith; some = λ below. ([], record { whole = refl; filled = refl; waited = refl; weighs = refl }, refl) }
@@ -146,11 +190,24 @@ module _ {old w a : ℕ} {ws as' : List ℕ} {x : ℕ} {cs : Choice} where
       first (due g m) same = absurd (both_ways _ g e)
       first (free g l n m) same = h.first _ m (omega arith)
 
+-- what a pan that has to be opened leaves to the others
+pub least_due_rest : {old w a : ℕ} {ws as' : List ℕ} {x k : ℕ} → ltb a old ≡ false → leb 1 w ≡ true → Least old (w ∷ ws) (a ∷ as') x k → Least old ws as' x k
+least_due_rest {old} {w} {a} {ws} {as'} {x} {k} e f h =
+    record {
+      low = λ cs m. let l = rw e at (h.low (true ∷ cs) (makes_due e f m)) in omega (arith, l);
+      some = λ below. let s = h.some below in at (taken s.0 s.1) (rw e at s.2);
+    }
+  where
+    at : {es : Choice} → Taken old w a ws as' x es → opened es ≡ 1 + due_pans old as' + k → (ds : Choice) × Makes old ws as' x ds × (opened ds ≡ due_pans old as' + k)
+    at (shut g m) same = absurd (both_ways _ e g)
+    at (due {ds} g m) same = (ds, m, omega arith)
+    at (free g l n m) same = absurd (both_ways _ e g)
+
 -- where opening the pan takes more pans, a choice of the least count leaves it shut
 pub shut_some :
-    {old w a : ℕ} {ws as' : List ℕ} {x k k' : ℕ} → ltb a old ≡ true → Least old (w ∷ ws) (a ∷ as') x k → k < 255 →
-    (leb 1 w ≡ true → w ≤ x → Least old ws as' (x - w) k' × (k ≤ k')) → (es : Choice) × Makes old ws as' x es × (opened es ≡ due_pans old as' + k)
-shut_some {old} {w} {a} {ws} {as'} {x} {k} {k'} e whole below barred = at (taken some.0 some.1) (rw e at some.2)
+    {old w a : ℕ} {ws as' : List ℕ} {x k : ℕ} → ltb a old ≡ true → Least old (w ∷ ws) (a ∷ as') x k → k < 255 →
+    (leb 1 w ≡ true → w ≤ x → (ds : Choice) → Makes old ws as' (x - w) ds → due_pans old as' + k ≤ opened ds) → (es : Choice) × Makes old ws as' x es × (opened es ≡ due_pans old as' + k)
+shut_some {old} {w} {a} {ws} {as'} {x} {k} e whole below barred = at (taken some.0 some.1) (rw e at some.2)
   where
     some : (es : Choice) × Makes old (w ∷ ws) (a ∷ as') x es × (opened es ≡ due_pans old (a ∷ as') + k)
     some = whole.some below
@@ -158,17 +215,21 @@ shut_some {old} {w} {a} {ws} {as'} {x} {k} {k'} e whole below barred = at (taken
     at : {es : Choice} → Taken old w a ws as' x es → opened es ≡ 0 + due_pans old as' + k → (ds : Choice) × Makes old ws as' x ds × (opened ds ≡ due_pans old as' + k)
     at (shut {ds} g m) same = (ds, m, omega arith)
     at (due g m) same = absurd (both_ways _ g e)
-    at (free g l n m) same = let b = barred l n in absurd (omega (arith, b.0.low _ m, b.1))
+    at (free g l n m) same = absurd (omega (arith, barred l n _ m))
 
-pub shut_below :
-    {old w a : ℕ} {ws as' : List ℕ} {x k k' k'' : ℕ} → ltb a old ≡ true → Least old (w ∷ ws) (a ∷ as') x k → k < 255 →
-    (leb 1 w ≡ true → w ≤ x → Least old ws as' (x - w) k' × (k ≤ k')) → Least old ws as' x k'' → k'' < 255
-shut_below e whole below barred rest = let s = shut_some e whole below barred in omega (arith, s.2, rest.low s.0 s.1)
+pub least_shut :
+    {old w a : ℕ} {ws as' : List ℕ} {x k : ℕ} → ltb a old ≡ true → Least old (w ∷ ws) (a ∷ as') x k → k < 255 →
+    (leb 1 w ≡ true → w ≤ x → (ds : Choice) → Makes old ws as' (x - w) ds → due_pans old as' + k ≤ opened ds) → Least old ws as' x k
+least_shut e whole below barred =
+    record {
+      low = λ cs m. let l = rw e at (whole.low (false ∷ cs) (makes_shut e m)) in omega (arith, l);
+      some = λ _. shut_some e whole below barred;
+    }
 
 pub first_shut :
-    {old w a : ℕ} {ws as' : List ℕ} {x k k' : ℕ} {cs : Choice} → ltb a old ≡ true → Least old (w ∷ ws) (a ∷ as') x k → k < 255 →
-    (leb 1 w ≡ true → w ≤ x → Least old ws as' (x - w) k' × (k ≤ k')) → First old ws as' x cs → First old (w ∷ ws) (a ∷ as') x (false ∷ cs)
-first_shut {old} {w} {a} {ws} {as'} {x} {k} {k'} {cs} e whole below barred h =
+    {old w a : ℕ} {ws as' : List ℕ} {x k : ℕ} {cs : Choice} → ltb a old ≡ true → Least old (w ∷ ws) (a ∷ as') x k → k < 255 →
+    (leb 1 w ≡ true → w ≤ x → (ds : Choice) → Makes old ws as' (x - w) ds → due_pans old as' + k ≤ opened ds) → First old ws as' x cs → First old (w ∷ ws) (a ∷ as') x (false ∷ cs)
+first_shut {old} {w} {a} {ws} {as'} {x} {k} {cs} e whole below barred h =
     record { makes = makes_shut e h.makes; fewest = λ ds m. fewest (taken ds m); first = λ ds m. first (taken ds m) }
   where
     some : (es : Choice) × Makes old ws as' x es × (opened es ≡ due_pans old as' + k)
@@ -180,12 +241,12 @@ first_shut {old} {w} {a} {ws} {as'} {x} {k} {k'} {cs} e whole below barred h =
     fewest : {ds : Choice} → Taken old w a ws as' x ds → opened (false ∷ cs) ≤ opened ds
     fewest (shut g m) = omega (arith, h.fewest _ m)
     fewest (due g m) = absurd (both_ways _ g e)
-    fewest (free g l n m) = let b = barred l n in omega (arith, b.0.low _ m, b.1, few)
+    fewest (free g l n m) = omega (arith, barred l n _ m, few)
 
     first : {ds : Choice} → Taken old w a ws as' x ds → opened ds ≡ opened (false ∷ cs) → first_more ds (false ∷ cs) ≡ false
     first (shut g m) same = h.first _ m (omega arith)
     first (due g m) same = absurd (both_ways _ g e)
-    first (free g l n m) same = let b = barred l n in absurd (omega (arith, b.0.low _ m, b.1, few))
+    first (free g l n m) same = absurd (omega (arith, barred l n _ m, few))
 
 -- no pan at all
 pub first_nothing : {old x k : ℕ} → Least old [] [] x k → k < 255 → First old [] [] x []

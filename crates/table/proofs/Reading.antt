@@ -1,26 +1,58 @@
 -- The choice that is read off the rows, pan by pan: what is read so far, with the first choice of what is left, is the first of all.
-use Rattle.std.proofs.Common.{◌≡◌, ℕ, ◌+◌, ◌-◌, ◌*◌, ◌^◌, ◌<◌, ◌≤◌, Bool, true, false, ◌&&◌, ◌||◌, ltb, leb, List, ◌∷◌, length, get_or, drop, sym, refl, ap, ◌∙◌, length-drop, mul_assoc, mul_comm, mul-le-mul_left, mul-one, mul-add, add-one, arith}
+use Rattle.std.proofs.Common.{◌≡◌, ℕ, ◌+◌, ◌-◌, ◌*◌, ◌^◌, ◌<◌, ◌≤◌, min, Bool, true, false, cond, ◌||◌, ltb, leb, ◌⊎◌, List, [], ◌∷◌, length, get_or, drop, sym, refl, ◌∙◌, inl, inr, mul_assoc, mul_comm, mul-one, mul-add, add-one, arith}
 use native.Mathlib.Nat.{pow-succ'}
-use Rattle.std.proofs.lemmas.List.{drop_more}
-use Rattle.std.proofs.lemmas.Bool.{and_parts, both_ways, leb-true, ltb-true, ltb-false, le-ltb, lt-ltb, le-leb, lt-leb}
-use Rattle.choices.specs.Choice.{Choice, bit}
+use Rattle.std.proofs.lemmas.List.{drop_all, length-drop}
+use Rattle.std.proofs.lemmas.Bool.{cases_lt, and_parts, le-ltb, lt-ltb, ltb-true, ltb-false, leb-true, leb-false}
+use Rattle.choices.specs.Choice.{Choice, bit, opened}
 use Rattle.choices.specs.Numbered.{number_of}
-use Rattle.table.specs.Pans.{free_pans, none_due_empty}
-use Rattle.table.specs.Rows.{Least, First, Row, Rows}
-use Rattle.table.proofs.Making.{first_due, first_open, first_shut, shut_below}
-use Rattle.table.proofs.Filling.{free_drop}
+use Rattle.table.specs.Pans.{due_at, due_pans, free_at, free_before, none_due_empty, pairs_of}
+use Rattle.table.specs.Rows.{Makes, Least, First, Row, Rows, Read, back, joined, row_at}
+use Rattle.table.proofs.Joining.{back_far, back_near, back_both}
+use Rattle.table.proofs.Making.{first_due, first_open, first_shut, first_nothing, least_due_rest, least_one, least_shut}
+use Rattle.table.proofs.Filling.{Kind, kind, free, idle, drop_weights, drop_ages, no_weights, no_ages, before_next, none_due_at, row_next}
 
--- the pans before i are read, and made the number pans, and those in us and vs are left; x is the weight of the whole, left that of the rest
-pub record Reading (old : ℕ) (ws as' us vs : List ℕ) (most wide x i row left pans : ℕ) (bytes : List ℕ) : Type 0 where
-  pub reached : i ≤ length ws
-  pub weights : us ≡ drop i ws
-  pub ages : vs ≡ drop i as'
-  pub ready : none_due_empty old us vs ≡ true
-  pub at : row ≡ wide * free_pans old us vs
+-- the pans before i are read; x is the weight of the whole, left what is left of it, and so many free pans make that
+pub record Reading (old : ℕ) (ws as' : List ℕ) (most x i left count pans : ℕ) : Type 0 where
+  pub least : Least old (drop i ws) (drop i as') left count
+  pub some : count < 255
   pub within : left ≤ most
-  pub some : get_or bytes (row + left) 0 < 255
+  pub reach : x ≤ left + free_before old ws as' i
   pub small : pans < 2 ^ i
-  pub goes : (cs : Choice) → First old us vs left cs → (ds : Choice) × First old ws as' x ds × (number_of ds ≡ pans + 2 ^ i * number_of cs)
+  pub goes : (cs : Choice) → First old (drop i ws) (drop i as') left cs → (ds : Choice) × First old ws as' x ds × (number_of ds ≡ pans + 2 ^ i * number_of cs)
+
+pub reading_none :
+    {old : ℕ} {ws as' : List ℕ} {most x : ℕ} {f : ℕ → ℕ} → Row old ws as' x most f → x ≤ most → f x < 255 → Reading old ws as' most x 0 x (f x) 0
+reading_none {x = x} h low some =
+    record { least = h.least x (omega arith) low; some = some; within = low; reach = omega arith; small = omega arith; goes = λ cs g. (cs, g, omega arith) }
+
+-- a pan is opened or not: it is opened for its weight, has to be opened, or neither
+pub data Stepped (old : ℕ) (ws as' : List ℕ) (pan weight with left count pans left' count' pans' : ℕ) : Type 0 where
+  opens : with < count → left' ≡ left - weight → count' ≡ with → pans' ≡ pans + 2 ^ pan → Stepped old ws as' pan weight with left count pans left' count' pans'
+  due : count ≤ with → due_at old ws as' pan ≡ true → left' ≡ left → count' ≡ count → pans' ≡ pans + 2 ^ pan → Stepped old ws as' pan weight with left count pans left' count' pans'
+  stays : count ≤ with → due_at old ws as' pan ≡ false → left' ≡ left → count' ≡ count → pans' ≡ pans → Stepped old ws as' pan weight with left count pans left' count' pans'
+
+-- as the code tells it
+pub stepped :
+    (old : ℕ) (ws as' : List ℕ) (pan weight with left count pans : ℕ) {left' pans' : ℕ} (o : Bool) → o ≡ ltb with count →
+    left' ≡ left - cond o weight 0 → pans' ≡ pans + bit (due_at old ws as' pan || o) * 2 ^ pan →
+    Stepped old ws as' pan weight with left count pans left' (cond o with count) pans'
+stepped old ws as' pan weight with left count pans o is rest number = at o is rest number
+  where
+    at :
+        {left' pans' : ℕ} (o : Bool) → o ≡ ltb with count → left' ≡ left - cond o weight 0 → pans' ≡ pans + bit (due_at old ws as' pan || o) * 2 ^ pan →
+        Stepped old ws as' pan weight with left count pans left' (cond o with count) pans'
+    at true is rest number = opens (ltb-true with count (sym is)) rest refl (opened' pans (due_at old ws as' pan) number)
+      where
+        opened' : {n : ℕ} (m : ℕ) (d : Bool) → n ≡ m + bit (d || true) * 2 ^ pan → n ≡ m + 2 ^ pan
+        opened' m true e = omega (arith, e)
+        opened' m false e = omega (arith, e)
+    at false is rest number = kept (due_at old ws as' pan) refl rest number
+      where
+        kept :
+            {left' pans' : ℕ} (d : Bool) → due_at old ws as' pan ≡ d → left' ≡ left - 0 → pans' ≡ pans + bit (d || false) * 2 ^ pan →
+            Stepped old ws as' pan weight with left count pans left' count pans'
+        kept true e rest n = due (ltb-false with count (sym is)) e (omega (arith, rest)) refl (omega (arith, n))
+        kept false e rest n = stays (ltb-false with count (sym is)) e (omega (arith, rest)) refl (omega (arith, n))
 
 -- the number with one pan more
 number_more : (i pans n : ℕ) (c : Bool) → pans + 2 ^ i * (bit c + 2 * n) ≡ (pans + bit c * 2 ^ i) + 2 ^ (i + 1) * n
@@ -31,118 +63,196 @@ small_more : (i pans : ℕ) (c : Bool) → pans < 2 ^ i → pans + bit c * 2 ^ i
 small_more i pans true h = rw (add-one i, pow-succ' 2 i) (omega arith)
 small_more i pans false h = rw (add-one i, pow-succ' 2 i) (omega arith)
 
-module _
-    {old : ℕ} {ws as' us vs us' vs' : List ℕ} {w a most wide x i j pan row left pans : ℕ} {bytes : List ℕ} (h : Reading old ws as' us vs most wide x i row left pans bytes)
-    (rows : Rows old ws as' most wide 0 bytes) (paired : length as' ≡ length ws)
-    (turn : ((us ≡ w ∷ us') × (vs ≡ a ∷ vs')) × (pan ≡ i) × (j ≡ i + 1) × (pan + 1 < 2 ^ 64))
+-- what is found a weight back is a count only within the row
+pub back_within : (f : ℕ → ℕ) (w x : ℕ) → back f w x < 255 → w ≤ x
+back_within f w x h = at (cases_lt x w)
   where
-    e : us ≡ w ∷ us'
-    e = turn.0.0
+    at : (x < w) ⊎ (w ≤ x) → w ≤ x
+    at (inl far) = absurd (omega (arith, h, back_far f w x far))
+    at (inr near) = near
 
-    f : vs ≡ a ∷ vs'
-    f = turn.0.1
-
-    few : i < length ws
-    few = omega (arith, length-drop i ws, ap length (sym h.weights ∙ e))
-
-    -- the number has room for this pan's bit
-    pub reading_fits : length ws ≤ 24 → (pan < 24) × (pans < 2 ^ pan)
-    reading_fits small = (omega (arith, turn.1, few), rw turn.1 h.small)
-
-    weights_left : us' ≡ drop (i + 1) ws
-    weights_left = let m = drop_more ws i 0 few in cc (h.weights, e, m)
-
-    ages_left : vs' ≡ drop (i + 1) as'
-    ages_left = let m = drop_more as' i 0 (omega (arith, few)) in cc (h.ages, f, m)
-
-    -- what the row of this pan and those behind it holds, and what that of those behind it holds
-    whole_least : Least old (w ∷ us') (a ∷ vs') left (get_or bytes (row + left) 0)
-    whole_least =
-        let r : Row old us vs most row bytes = rw (h.at, h.weights, h.ages) (rows.row i (omega arith) (omega (arith, few))) in
-        rw (e, f) at (r.least left h.within)
-
-    rest_least : {start y : ℕ} → start ≡ wide * free_pans old us' vs' → y ≤ most → Least old us' vs' y (get_or bytes (start + y) 0)
-    rest_least {start} {y} is low =
-        let r : Row old us' vs' most start bytes = rw (is, weights_left, ages_left) (rows.row (i + 1) (omega arith) (omega (arith, few))) in
-        r.least y low
-
-    free_next : free_pans old us vs ≡ bit (ltb a old && leb 1 w) + free_pans old us' vs'
-    free_next = rw (e, f) refl
-
-    filled : ((ltb a old || leb 1 w) ≡ true) × (none_due_empty old us' vs' ≡ true)
-    filled = and_parts (ltb a old || leb 1 w) _ (rw (e, f) at h.ready)
-
+module _
+    {old : ℕ} {ws as' : List ℕ} {most x i left count pans : ℕ} (h : Reading old ws as' most x i left count pans) (paired : length as' ≡ length ws)
+  where
     next :
-        {row' left' pans' : ℕ} (c : Bool) → pans' ≡ pans + bit c * 2 ^ pan → row' ≡ wide * free_pans old us' vs' → left' ≤ most →
-        get_or bytes (row' + left') 0 < 255 →
-        ((cs : Choice) → First old us' vs' left' cs → First old (w ∷ us') (a ∷ vs') left (c ∷ cs)) →
-        Reading old ws as' us' vs' most wide x j row' left' pans' bytes
-    next c is place low some step =
+        {left' count' pans' : ℕ} (c : Bool) → i < length ws → pans' ≡ pans + bit c * 2 ^ i → Least old (drop (i + 1) ws) (drop (i + 1) as') left' count' →
+        count' < 255 → left' ≤ most → x ≤ left' + free_before old ws as' (i + 1) →
+        ((cs : Choice) → First old (drop (i + 1) ws) (drop (i + 1) as') left' cs → First old (get_or ws i 0 ∷ drop (i + 1) ws) (get_or as' i 0 ∷ drop (i + 1) as') left (c ∷ cs)) →
+        Reading old ws as' most x (i + 1) left' count' pans'
+    next c few is least some low reach step =
         record {
-          reached = omega (arith, turn.2, few);
-          weights = rw turn.2 weights_left;
-          ages = rw turn.2 ages_left;
-          ready = filled.1;
-          at = place;
-          within = low;
+          least = least;
           some = some;
-          small = rw (is, turn.1, turn.2) (small_more i pans c h.small);
-          goes = λ cs first. let g = h.goes (c ∷ cs) (rw (e, f) (step cs first)) in (g.0, g.1, cc (g.2, number_more i pans (number_of cs) c, is, turn.1, turn.2));
+          within = low;
+          reach = reach;
+          small = rw is (small_more i pans c h.small);
+          goes = λ cs f.
+              let g = h.goes (c ∷ cs) (rw (drop_weights old ws as' i paired few, drop_ages old ws as' i paired few) (step cs f)) in
+              (g.0, g.1, rw is (g.2 ∙ number_more i pans (number_of cs) c));
         }
 
-    pub reading_due : {pans' : ℕ} → old ≤ a → pans' ≡ pans + 2 ^ pan → Reading old ws as' us' vs' most wide x j row left pans' bytes
-    reading_due waited is =
-        let k = le-ltb a old waited in
-        let n : free_pans old us' vs' ≡ free_pans old us vs = omega (arith, rw k at free_next) in
-        next true (omega arith) (rw n h.at) h.within h.some (λ cs first. first_due k (rw k at filled.0) first)
+    whole : i < length ws → Least old (get_or ws i 0 ∷ drop (i + 1) ws) (get_or as' i 0 ∷ drop (i + 1) as') left count
+    whole few = rw (drop_weights old ws as' i paired few, drop_ages old ws as' i paired few) at h.least
 
-    pub reading_idle : a < old → w ≤ 0 → Reading old ws as' us' vs' most wide x j row left pans bytes
-    reading_idle young empty =
-        let k = lt-ltb a old young in
-        let m = lt-leb 1 w (omega arith) in
-        let n : free_pans old us' vs' ≡ free_pans old us vs = omega (arith, rw (k, m) at free_next) in
-        next false (omega arith) (rw n h.at) h.within h.some (λ cs first. first_shut {k' = 0} k whole_least h.some (λ full _. absurd (both_ways _ m full)) first)
+    later : free_before old ws as' (i + 1) ≡ free_before old ws as' i + free_at old ws as' i
+    later = before_next old ws as' i paired
 
-    module _ (young : a < old) (full : 0 < w) where
-      pub reading_row : row ≡ wide + wide * free_pans old us' vs'
-      reading_row =
-          let n : free_pans old us vs ≡ 1 + free_pans old us' vs' = rw (lt-ltb a old young, le-leb 1 w (omega arith)) at free_next in
-          let is : row ≡ wide * (1 + free_pans old us' vs') = rw n at h.at in
-          omega (arith, mul-add wide 1 (free_pans old us' vs'), mul-one wide)
+    -- a pan that is not opened for its weight: it has to be, or opening it takes no fewer pans
+    module _
+        (ready : none_due_empty old ws as' ≡ true)
+        (barred : leb 1 (get_or ws i 0) ≡ true → ltb (get_or as' i 0) old ≡ true → get_or ws i 0 ≤ left → (ds : Choice) →
+        Makes old (drop (i + 1) ws) (drop (i + 1) as') (left - get_or ws i 0) ds → due_pans old (drop (i + 1) as') + count ≤ opened ds)
+      where
+        reading_due : {left' count' pans' : ℕ} → due_at old ws as' i ≡ true → left' ≡ left → count' ≡ count → pans' ≡ pans + 2 ^ i → Reading old ws as' most x (i + 1) left' count' pans'
+        reading_due test same many number =
+            next true few (omega arith) (rw (same, many) (least_due_rest e full (whole few))) (omega (arith, h.some)) (omega (arith, h.within)) (omega (arith, h.reach, later))
+            (λ cs g. first_due e full (rw same at g))
+          where
+            few : i < length ws
+            few = ltb-true i (length ws) (and_parts (ltb i (length ws)) (leb old (get_or as' i 0)) test).0
 
-      below : row - wide ≡ wide * free_pans old us' vs'
-      below = omega (arith, reading_row)
+            e : ltb (get_or as' i 0) old ≡ false
+            e = le-ltb (get_or as' i 0) old (leb-true old (get_or as' i 0) (and_parts (ltb i (length ws)) (leb old (get_or as' i 0)) test).1)
 
-      pub reading_open :
-          {pans' : ℕ} → (leb w left && ltb (get_or bytes (row - wide + (left - w)) 0) (get_or bytes (row + left) 0)) ≡ true → pans' ≡ pans + 2 ^ pan →
-          Reading old ws as' us' vs' most wide x j (row - wide) (left - w) pans' bytes
-      reading_open test is =
-          let p = and_parts (leb w left) _ test in
-          let heavy = leb-true w left p.0 in
-          let fewer = ltb-true (get_or bytes (row - wide + (left - w)) 0) (get_or bytes (row + left) 0) p.1 in
-          let low : left - w ≤ most = omega (arith, h.within) in
-          next true (omega arith) below low (omega (arith, h.some))
-          (λ cs first. first_open (lt-ltb _ _ young) (le-leb _ _ (omega arith)) heavy whole_least h.some (rest_least below low) fewer first)
+            full : leb 1 (get_or ws i 0) ≡ true
+            full = rw e at (none_due_at old ws as' i few paired ready)
 
-      pub reading_shut :
-          (leb w left && ltb (get_or bytes (row - wide + (left - w)) 0) (get_or bytes (row + left) 0)) ≡ false →
-          Reading old ws as' us' vs' most wide x j (row - wide) left pans bytes
-      reading_shut test =
-          next false (omega arith) below h.within (shut_below k whole_least h.some barred (rest_least below h.within)) (λ cs first. first_shut k whole_least h.some barred first)
-        where
-          k : ltb a old ≡ true
-          k = lt-ltb _ _ young
+        reading_stays : due_at old ws as' i ≡ false → Reading old ws as' most x (i + 1) left count pans
+        reading_stays test = at (cases_lt i (length ws))
+          where
+            at : (i < length ws) ⊎ (length ws ≤ i) → Reading old ws as' most x (i + 1) left count pans
+            at (inl few) =
+                next false few (omega arith) (least_shut e (whole few) h.some (λ full near. barred full e near)) h.some h.within (omega (arith, h.reach, later))
+                (λ cs g. first_shut e (whole few) h.some (λ full near. barred full e near) g)
+              where
+                e : ltb (get_or as' i 0) old ≡ true
+                e = lt-ltb (get_or as' i 0) old (leb-false old (get_or as' i 0) (rw (lt-ltb i (length ws) few) at test))
+            at (inr past) =
+                record {
+                  least = rw (gone_weights, gone_ages) (rw (no_weights old ws as' i paired past, no_ages old ws as' i paired past) at h.least);
+                  some = h.some;
+                  within = h.within;
+                  reach = omega (arith, h.reach, later);
+                  small = let m = small_more i pans false h.small in omega (arith, m);
+                  goes = λ cs g. ended cs (rw (gone_weights, gone_ages) at g);
+                }
+              where
+                gone_weights : drop (i + 1) ws ≡ []
+                gone_weights = drop_all (i + 1) ws (omega arith)
 
-          barred :
-              leb 1 w ≡ true → w ≤ left →
-              Least old us' vs' (left - w) (get_or bytes (row - wide + (left - w)) 0) × (get_or bytes (row + left) 0 ≤ get_or bytes (row - wide + (left - w)) 0)
-          barred some heavy = (rest_least below (omega (arith, h.within)), ltb-false _ _ (rw (le-leb _ _ heavy) at test))
+                gone_ages : drop (i + 1) as' ≡ []
+                gone_ages = drop_all (i + 1) as' (omega arith)
 
--- the byte that is read lies in the table
-pub reading_room :
-    {old : ℕ} {ws as' us vs : List ℕ} {most wide x i row left pans : ℕ} {bytes : List ℕ} → Reading old ws as' us vs most wide x i row left pans bytes → most < wide →
-    row + left < wide * (free_pans old ws as' + 1)
-reading_room {old} {ws} {as'} {wide = wide} {i = i} {row} h less =
-    let d : free_pans old (drop i ws) (drop i as') ≤ free_pans old ws as' = free_drop old ws as' 0 i (omega arith) in
-    let is : row ≡ wide * free_pans old (drop i ws) (drop i as') = rw (h.weights, h.ages) at h.at in
-    omega (arith, h.within, mul-le-mul_left wide d, mul-add wide (free_pans old ws as') 1, mul-one wide)
+                ended : (cs : Choice) → First old [] [] left cs → (ds : Choice) × First old ws as' x ds × (number_of ds ≡ pans + 2 ^ (i + 1) * number_of cs)
+                ended [] g = let k = h.goes [] (rw (no_weights old ws as' i paired past, no_ages old ws as' i paired past) g) in (k.0, k.1, omega (arith, k.2))
+                ended (c ∷ cs) g = absurd (omega (arith, g.makes.whole))
+
+    -- one pan more is read, beside the row of the pans behind it
+    pub reading_next :
+        {with left' count' pans' : ℕ} {f : ℕ → ℕ} → none_due_empty old ws as' ≡ true →
+        Row old (drop (i + 1) ws) (drop (i + 1) as') (x - free_before old ws as' (i + 1)) most f → with ≡ back f (free_at old ws as' i) left →
+        Stepped old ws as' i (free_at old ws as' i) with left count pans left' count' pans' → Reading old ws as' most x (i + 1) left' count' pans'
+    reading_next {with} {left'} {count'} {pans'} {f} ready rest is s = at s
+      where
+        opened' : with < count → left' ≡ left - free_at old ws as' i → count' ≡ with → pans' ≡ pans + 2 ^ i → Kind old ws as' i paired → Reading old ws as' most x (i + 1) left' count' pans'
+        opened' fewer to many number (idle e goes) = absurd (omega (arith, fewer, here, same, h.some))
+          where
+            here : with ≡ f left
+            here = let z : left - 0 ≡ left = omega arith in is ∙ rw (e, back_near f 0 left (omega arith), z) refl
+
+            same : f left < 255 → count ≤ f left
+            same below = least_one h.least (goes left (f left) (rest.least left (omega (arith, h.reach, later, e)) h.within)) below
+        opened' fewer to many number (free few young full lies) =
+            next true few (omega arith) (rw (at', many, value) behind) (omega (arith, h.some)) (omega (arith, h.within)) (omega (arith, h.reach, later, lies, near, to))
+            (λ cs g. first_open young full near (whole few) h.some behind (omega (arith, fewer, value)) (rw at' at g))
+          where
+            near : get_or ws i 0 ≤ left
+            near = rw lies at (back_within f (free_at old ws as' i) left (omega (arith, is, fewer, h.some)))
+
+            value : with ≡ f (left - get_or ws i 0)
+            value = is ∙ rw lies (back_near f (get_or ws i 0) left near)
+
+            at' : left' ≡ left - get_or ws i 0
+            at' = omega (arith, to, lies)
+
+            behind : Least old (drop (i + 1) ws) (drop (i + 1) as') (left - get_or ws i 0) (f (left - get_or ws i 0))
+            behind = rest.least (left - get_or ws i 0) (omega (arith, h.reach, later, lies)) (omega (arith, h.within))
+
+        barred :
+            count ≤ with → leb 1 (get_or ws i 0) ≡ true → ltb (get_or as' i 0) old ≡ true → get_or ws i 0 ≤ left → (ds : Choice) →
+            Makes old (drop (i + 1) ws) (drop (i + 1) as') (left - get_or ws i 0) ds → due_pans old (drop (i + 1) as') + count ≤ opened ds
+        barred more full e near ds m =
+            let lies : free_at old ws as' i ≡ get_or ws i 0 = rw e refl in
+            let value : with ≡ f (left - get_or ws i 0) = is ∙ rw lies (back_near f (get_or ws i 0) left near) in
+            omega (arith, more, value, (rest.least (left - get_or ws i 0) (omega (arith, h.reach, later, lies)) (omega (arith, h.within))).low ds m)
+
+        at : Stepped old ws as' i (free_at old ws as' i) with left count pans left' count' pans' → Reading old ws as' most x (i + 1) left' count' pans'
+        at (opens fewer to many number) = opened' fewer to many number (kind old ws as' i paired ready)
+        at (due more test to many number) = reading_due ready (barred more) test to many number
+        at (stays more test to many number) = rw (to, many, number) (reading_stays ready (barred more) test)
+
+-- the count is what another row tells of the same pans
+pub reading_same :
+    {old : ℕ} {ws as' : List ℕ} {most x i left count count' pans : ℕ} → Reading old ws as' most x i left count pans → Least old (drop i ws) (drop i as') left count' →
+    Reading old ws as' most x i left count' pans
+reading_same h l =
+    record { least = l; some = omega (arith, least_one l h.least h.some, h.some); within = h.within; reach = h.reach; small = h.small; goes = h.goes }
+
+-- two pans are read beside the row of the pans behind them
+module _
+    {old : ℕ} {ws as' : List ℕ} {most pad wide x pair row : ℕ} {bytes : List ℕ} (paired : length as' ≡ length ws) (ready : none_due_empty old ws as' ≡ true)
+    (rows : Rows old ws as' x most pad wide 0 bytes) (few : pair < pairs_of (length ws)) (place : row ≡ pad + wide * (pairs_of (length ws) - (pair + 1)))
+  where
+    two : 2 * (pair + 1) ≡ 2 * pair + 1 + 1
+    two = omega arith
+
+    behind : Row old (drop (2 * pair + 1 + 1) ws) (drop (2 * pair + 1 + 1) as') (x - free_before old ws as' (2 * pair + 1 + 1)) most (row_at bytes row)
+    behind =
+        let b = rows.row (pair + 1) (omega arith) (omega arith) in
+        rw (two, sym place) at b
+
+    -- what the two pans take is there to be taken
+    pub reading_left :
+        (u v : ℕ) {left count pans : ℕ} {o o' : Bool} → Reading old ws as' most x (2 * pair) left count pans → o ≡ ltb (back (joined (row_at bytes row) v) u left) count →
+        o' ≡ cond o (ltb (back (row_at bytes row) (u + v) left) (back (joined (row_at bytes row) v) u left)) (ltb (back (row_at bytes row) v left) count) → cond o u 0 + cond o' v 0 ≤ left
+    reading_left u v {left} {count} {o = o} {o'} h is is' = at o o' is is'
+      where
+        at : (o o' : Bool) → o ≡ ltb (back (joined (row_at bytes row) v) u left) count → o' ≡ cond o (ltb (back (row_at bytes row) (u + v) left) (back (joined (row_at bytes row) v) u left)) (ltb (back (row_at bytes row) v left) count) → cond o u 0 + cond o' v 0 ≤ left
+        at true true e f =
+            let few = ltb-true (back (joined (row_at bytes row) v) u left) count (sym e) in
+            omega (arith, back_within (row_at bytes row) (u + v) left (omega (arith, ltb-true (back (row_at bytes row) (u + v) left) (back (joined (row_at bytes row) v) u left) (sym f), few, h.some)))
+        at true false e f = omega (arith, back_within (joined (row_at bytes row) v) u left (omega (arith, ltb-true (back (joined (row_at bytes row) v) u left) count (sym e), h.some)))
+        at false true e f = omega (arith, back_within (row_at bytes row) v left (omega (arith, ltb-true (back (row_at bytes row) v left) count (sym f), h.some)))
+        at false false e f = omega arith
+
+    pub reading_two :
+        (left'' pans' pans'' : ℕ) {left count pans : ℕ} {o o' : Bool} → Reading old ws as' most x (2 * pair) left count pans →
+        o ≡ ltb (back (joined (row_at bytes row) (free_at old ws as' (2 * pair + 1))) (free_at old ws as' (2 * pair)) left) count →
+        o' ≡ cond o (ltb (back (row_at bytes row) ((free_at old ws as' (2 * pair)) + (free_at old ws as' (2 * pair + 1))) left) (back (joined (row_at bytes row) (free_at old ws as' (2 * pair + 1))) (free_at old ws as' (2 * pair)) left)) (ltb (back (row_at bytes row) (free_at old ws as' (2 * pair + 1)) left) count) →
+        left'' ≡ left - (cond o (free_at old ws as' (2 * pair)) 0 + cond o' (free_at old ws as' (2 * pair + 1)) 0) → pans' ≡ pans + bit (due_at old ws as' (2 * pair) || o) * 2 ^ (2 * pair) →
+        pans'' ≡ pans' + bit (due_at old ws as' (2 * pair + 1) || o') * 2 ^ (2 * pair + 1) →
+        Reading old ws as' most x (2 * (pair + 1)) left'' (row_at bytes row left'') pans''
+    reading_two left'' pans' pans'' {left} {count} {pans} {o} {o'} h is is' rest number number' =
+        let one : Reading old ws as' most x (2 * pair + 1) (left - cond o (free_at old ws as' (2 * pair)) 0) (cond o (back (joined (row_at bytes row) (free_at old ws as' (2 * pair + 1))) (free_at old ws as' (2 * pair)) left) count) pans'
+        = reading_next h paired ready (row_next old ws as' (2 * pair + 1) paired x ready behind) refl
+          (stepped old ws as' (2 * pair) (free_at old ws as' (2 * pair)) (back (joined (row_at bytes row) (free_at old ws as' (2 * pair + 1))) (free_at old ws as' (2 * pair)) left) left count pans o is refl number) in
+        let both : Reading old ws as' most x (2 * pair + 1 + 1) left'' (cond o' (back (row_at bytes row) (free_at old ws as' (2 * pair + 1)) (left - cond o (free_at old ws as' (2 * pair)) 0)) (cond o (back (joined (row_at bytes row) (free_at old ws as' (2 * pair + 1))) (free_at old ws as' (2 * pair)) left) count)) pans''
+        = reading_next one paired ready behind refl
+          (stepped old ws as' (2 * pair + 1) (free_at old ws as' (2 * pair + 1)) (back (row_at bytes row) (free_at old ws as' (2 * pair + 1)) (left - cond o (free_at old ws as' (2 * pair)) 0)) (left - cond o (free_at old ws as' (2 * pair)) 0) (cond o (back (joined (row_at bytes row) (free_at old ws as' (2 * pair + 1))) (free_at old ws as' (2 * pair)) left) count) pans' o' (is' ∙ beside o is) (omega (arith, rest)) number') in
+        rw two (reading_same both (behind.least left'' (omega (arith, both.reach)) both.within))
+      where
+        -- what the rest takes without the second pan and with it
+        beside : (o : Bool) → o ≡ ltb (back (joined (row_at bytes row) (free_at old ws as' (2 * pair + 1))) (free_at old ws as' (2 * pair)) left) count → cond o (ltb (back (row_at bytes row) ((free_at old ws as' (2 * pair)) + (free_at old ws as' (2 * pair + 1))) left) (back (joined (row_at bytes row) (free_at old ws as' (2 * pair + 1))) (free_at old ws as' (2 * pair)) left)) (ltb (back (row_at bytes row) (free_at old ws as' (2 * pair + 1)) left) count) ≡ ltb (back (row_at bytes row) (free_at old ws as' (2 * pair + 1)) (left - cond o (free_at old ws as' (2 * pair)) 0)) (cond o (back (joined (row_at bytes row) (free_at old ws as' (2 * pair + 1))) (free_at old ws as' (2 * pair)) left) count)
+        beside true is =
+            let near = back_within (joined (row_at bytes row) (free_at old ws as' (2 * pair + 1))) (free_at old ws as' (2 * pair)) left (omega (arith, ltb-true (back (joined (row_at bytes row) (free_at old ws as' (2 * pair + 1))) (free_at old ws as' (2 * pair)) left) count (sym is), h.some)) in
+            rw (back_both (row_at bytes row) (free_at old ws as' (2 * pair)) (free_at old ws as' (2 * pair + 1)) left near) refl
+        beside false is = let e : left - 0 ≡ left = omega arith in rw e refl
+
+-- no pan is left
+pub reading_all :
+    {old : ℕ} {ws as' : List ℕ} {most x i left count pans : ℕ} → Reading old ws as' most x i left count pans → length ws ≤ i → length as' ≡ length ws → Read old ws as' x pans
+reading_all {old} {ws} {as'} {most} {x} {i} {left} h past paired =
+    let none : First old (drop i ws) (drop i as') left []
+    = rw (no_weights old ws as' i paired past, no_ages old ws as' i paired past) (first_nothing (rw (no_weights old ws as' i paired past, no_ages old ws as' i paired past) at h.least) h.some) in
+    let g = h.goes [] none in
+    record { choice = g.0; first = g.1; is = omega (arith, g.2) }

@@ -1,14 +1,19 @@
 -- What the pans of a ring are to its table. Assumes nothing: these are definitions.
 --   due_weight       what the pans weigh that have waited so many bags, or more: they have to be opened
 --   due_pans         how many they are
+--   due_at           whether there is such a pan, and it is one of them
 --   free_weight      what the other pans weigh
---   free_pans        how many of the others are not empty: each may be opened or stay shut, and has a row
+--   free_at          what a pan adds to that: nothing, if it has to be opened or is not there
+--   free_before      what the free pans before a pan weigh
+--   heaviest         what lies in the heaviest free pan
 --   none_due_empty   no pan that has to be opened is empty
 --   span_of          the most that the free pans of a bag may weigh: all of them, or what is left to the top of the window
---   row_bytes        the bytes of a row: one for every weight up to a span, and 15 behind them
---   table_bytes      the bytes of a table: a row for no pan at all and one for each free pan
-use Rattle.std.specs.Prelude.{ℕ, ◌+◌, ◌-◌, ◌*◌, min, Bool, true, cond, ◌&&◌, ◌||◌, List, [], ◌∷◌, nat_le, nat_lt}
-use Rattle.choices.specs.Choice.{bit}
+--   pairs_of         the pans go into the table by twos; the last may be alone
+--   width_of         whole blocks of 64 bytes that hold a byte for every weight up to a span
+--   pad_of           the bytes in front of a row: as far as two pans can reach back, or a whole row, if that is less
+--   row_bytes        the bytes of a row with those in front
+--   table_bytes      the bytes of a table: a row for no pan at all and one for each two pans
+use Rattle.std.specs.Prelude.{ℕ, ◌+◌, ◌-◌, ◌*◌, ◌/◌, min, max, Bool, true, cond, ◌&&◌, ◌||◌, List, [], ◌∷◌, length, drop, nat_le, nat_lt, slice_index}
 use Rattle.choices.specs.declared.rule.Rule.{Rule}
 
 abbrev pub due_weight : ℕ → (weights ages : List ℕ) → ℕ
@@ -20,15 +25,24 @@ abbrev pub due_pans : ℕ → (ages : List ℕ) → ℕ
 due_pans old [] = 0
 due_pans old (a ∷ as') = cond (nat_lt a old) 0 1 + due_pans old as'
 
+abbrev pub due_at : ℕ → (weights ages : List ℕ) → (pan : ℕ) → Bool
+due_at old ws as' i = nat_lt i (length ws) && nat_le old (slice_index as' i)
+
 abbrev pub free_weight : ℕ → (weights ages : List ℕ) → ℕ
 free_weight old [] as' = 0
 free_weight old (w ∷ ws) [] = 0
 free_weight old (w ∷ ws) (a ∷ as') = cond (nat_lt a old) w 0 + free_weight old ws as'
 
-abbrev pub free_pans : ℕ → (weights ages : List ℕ) → ℕ
-free_pans old [] as' = 0
-free_pans old (w ∷ ws) [] = 0
-free_pans old (w ∷ ws) (a ∷ as') = bit (nat_lt a old && nat_le 1 w) + free_pans old ws as'
+abbrev pub free_at : ℕ → (weights ages : List ℕ) → (pan : ℕ) → ℕ
+free_at old ws as' i = cond (nat_lt (slice_index as' i) old) (slice_index ws i) 0
+
+abbrev pub free_before : ℕ → (weights ages : List ℕ) → (pan : ℕ) → ℕ
+free_before old ws as' i = free_weight old ws as' - free_weight old (drop i ws) (drop i as')
+
+abbrev pub heaviest : ℕ → (weights ages : List ℕ) → ℕ
+heaviest old [] as' = 0
+heaviest old (w ∷ ws) [] = 0
+heaviest old (w ∷ ws) (a ∷ as') = max (cond (nat_lt a old) w 0) (heaviest old ws as')
 
 abbrev pub none_due_empty : ℕ → (weights ages : List ℕ) → Bool
 none_due_empty old [] as' = true
@@ -38,8 +52,17 @@ none_due_empty old (w ∷ ws) (a ∷ as') = (nat_lt a old || nat_le 1 w) && none
 unfoldable pub span_of : Rule → (weights ages : List ℕ) → ℕ
 span_of r ws as' = min (r.target + r.above - due_weight r.age ws as') (free_weight r.age ws as')
 
-abbrev pub row_bytes : ℕ → ℕ
-row_bytes most = most + 16
+abbrev pub pairs_of : ℕ → ℕ
+pairs_of pans = (pans + 1) / 2
+
+abbrev pub width_of : ℕ → ℕ
+width_of most = 64 * (most / 64 + 1)
+
+unfoldable pub pad_of : (most heavy : ℕ) → ℕ
+pad_of most heavy = min (width_of most) (width_of (2 * heavy))
+
+unfoldable pub row_bytes : (most heavy : ℕ) → ℕ
+row_bytes most heavy = pad_of most heavy + width_of most
 
 unfoldable pub table_bytes : Rule → (weights ages : List ℕ) → ℕ
-table_bytes r ws as' = row_bytes (span_of r ws as') * (free_pans r.age ws as' + 1)
+table_bytes r ws as' = row_bytes (span_of r ws as') (heaviest r.age ws as') * (pairs_of (length ws) + 1)

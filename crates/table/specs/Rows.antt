@@ -1,17 +1,31 @@
 -- What the rows of a table hold. Assumes nothing: these are definitions.
+--   row_at     what the row whose weight 0 stands at a place holds for a weight
+--   back       what a row holds a pan's weight further to the front; 255 where no weight is
+--   joined     the least of what it holds without a pan, and with it and one pan more
 --   Makes      a choice of some pans that opens every pan that has to be opened and none that is empty, and weighs so
 --              much more than the pans that have to be opened
 --   Least      the least number of pans, beside those that have to be opened, in such a choice; 255: there is none
---   Row        a row holds it for every weight up to the span
---   Rows       for each pan from the first one on, the row of the pans from there on; it lies behind the rows of fewer free pans
+--   Row        a row holds it for every weight that matters: from a lowest one up to the span
+--   Rows       for each two pans from the first ones on, the row of the pans from there on; it lies behind the rows of fewer
+--              pans, and has so many bytes of 255 in front. What matters is what the free pans before can't make up for
+--   Reaches    two pans that stand side by side reach back no further than the bytes in front, or no weight of a row does
 --   First      of the choices that weigh so much, the one of the fewest pans that opens the first pan that differs
 --   Read       that choice, by its number
 --   Lightest   the first weight of a window for which a row holds a count within a limit, or that there is none
-use Rattle.std.specs.Prelude.{◌≡◌, ℕ, ◌+◌, ◌*◌, ◌<◌, ◌≤◌, true, false, List, length, drop, Some, None, Option, slice_index, slice_index_or}
+use Rattle.std.specs.Prelude.{◌≡◌, ℕ, ◌+◌, ◌-◌, ◌*◌, ◌<◌, ◌≤◌, min, true, false, cond, List, length, drop, Some, None, Option, nat_le, slice_index, slice_index_or}
 use Rattle.choices.specs.Choice.{Choice, weight_of, opened, none_empty, keeps_old}
 use Rattle.choices.specs.Numbered.{number_of}
 use Rattle.order.specs.Order.{first_more}
-use Rattle.table.specs.Pans.{due_weight, due_pans, free_pans}
+use Rattle.table.specs.Pans.{due_weight, due_pans, free_at, free_before, pairs_of}
+
+abbrev pub row_at : (bytes : List ℕ) (start : ℕ) → ℕ → ℕ
+row_at bytes start x = slice_index bytes (start + x)
+
+abbrev pub back : (ℕ → ℕ) → (weight x : ℕ) → ℕ
+back row w x = cond (nat_le w x) (row (x - w)) 255
+
+abbrev pub joined : (ℕ → ℕ) → (weight x : ℕ) → ℕ
+joined row w x = min (row x) (min (back row w x + 1) 255)
 
 pub record Makes (old : ℕ) (ws as' : List ℕ) (x : ℕ) (cs : Choice) : Type 0 where
   pub whole : length cs ≡ length ws
@@ -23,11 +37,16 @@ pub record Least (old : ℕ) (ws as' : List ℕ) (x k : ℕ) : Type 0 where
   pub low : (cs : Choice) → Makes old ws as' x cs → due_pans old as' + k ≤ opened cs
   pub some : k < 255 → (cs : Choice) × Makes old ws as' x cs × (opened cs ≡ due_pans old as' + k)
 
-pub record Row (old : ℕ) (ws as' : List ℕ) (most start : ℕ) (bytes : List ℕ) : Type 0 where
-  pub least : (x : ℕ) → x ≤ most → Least old ws as' x (slice_index bytes (start + x))
+pub record Row (old : ℕ) (ws as' : List ℕ) (from most : ℕ) (row : ℕ → ℕ) : Type 0 where
+  pub least : (x : ℕ) → from ≤ x → x ≤ most → Least old ws as' x (row x)
 
-pub record Rows (old : ℕ) (ws as' : List ℕ) (most wide first : ℕ) (bytes : List ℕ) : Type 0 where
-  pub row : (i : ℕ) → first ≤ i → i ≤ length ws → Row old (drop i ws) (drop i as') most (wide * free_pans old (drop i ws) (drop i as')) bytes
+pub record Rows (old : ℕ) (ws as' : List ℕ) (from most pad wide first : ℕ) (bytes : List ℕ) : Type 0 where
+  pub row : (i : ℕ) → first ≤ i → i ≤ pairs_of (length ws) →
+      Row old (drop (2 * i) ws) (drop (2 * i) as') (from - free_before old ws as' (2 * i)) most (row_at bytes (pad + wide * (pairs_of (length ws) - i)))
+  pub blank : (i j : ℕ) → first ≤ i → i ≤ pairs_of (length ws) → j < pad → slice_index bytes (wide * (pairs_of (length ws) - i) + j) ≡ 255
+
+abbrev pub Reaches : ℕ → (weights ages : List ℕ) → (pad width : ℕ) → Type 0
+Reaches old ws as' pad width = (i : ℕ) → pad < free_at old ws as' i + free_at old ws as' (i + 1) → width ≤ pad
 
 pub record First (old : ℕ) (ws as' : List ℕ) (x : ℕ) (cs : Choice) : Type 0 where
   pub makes : Makes old ws as' x cs

@@ -1,5 +1,5 @@
 // The best bag of a ring, by its table.
-ghost use Rattle.std.specs.Prelude.{◌≤◌, length};
+ghost use Rattle.std.specs.Prelude.{◌*◌, ◌≤◌, length};
 ghost use Rattle.choices.specs.Choice.{fits};
 ghost use Rattle.order.specs.Order.{Found};
 ghost use Rattle.table.specs.Pans.{table_bytes};
@@ -7,6 +7,7 @@ ghost use Rattle.table.specs.Pans.{table_bytes};
 use crate::look::survey;
 use crate::read::Table;
 use crate::rows::fill;
+use crate::shape::Shape;
 use choices::Ring;
 use order::Bag;
 
@@ -22,14 +23,15 @@ pub fn best(ring: Ring, room: &mut [u8]) -> Option<Bag>
         return None;
     }
     let span = seen.span(rule);
-    fill(ring, span, room);
+    let from = rule.target.saturating_sub(seen.due) as usize;
+    let shape = Shape::of(span, seen.heaviest as usize);
+    fill(ring, seen, from, shape, room);
     let table = Table {
         ring,
         span,
-        rows: seen.rows,
+        shape,
         bytes: room,
     };
-    let from = rule.target.saturating_sub(seen.due) as usize;
     let limit = (rule.pans - seen.held).min(254) as u8;
     let x = table.lightest(from, limit)?;
     Some(Bag {

@@ -2,9 +2,12 @@
 #![tactic(auto)]
 
 mod answer;
+mod blocks;
 mod look;
+mod pans;
 mod read;
 mod rows;
+mod shape;
 mod survey;
 
 pub use answer::best;

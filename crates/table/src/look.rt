@@ -3,7 +3,8 @@ ghost use Rattle.table.specs.Pans.{table_bytes};
 ghost use Rattle.table.specs.Surveyed.{Surveyed};
 ghost use Rattle.std.specs.Prelude.{◌≡◌};
 
-use crate::rows::BLOCK;
+use crate::pans::pairs;
+use crate::shape::Shape;
 use crate::survey::Survey;
 use choices::Ring;
 
@@ -23,5 +24,6 @@ pub fn room_for(ring: Ring) -> usize
     ensures { result ≡ table_bytes ring.entry.rule ring.entry.weights.now ring.entry.ages.now }
 {
     let seen = survey(ring);
-    (seen.span(ring.rule) + BLOCK) * (seen.rows + 1)
+    let shape = Shape::of(seen.span(ring.rule), seen.heaviest as usize);
+    shape.wide() * (pairs(ring) + 1)
 }

@@ -1,71 +1,100 @@
 // A ring's table in a lent room, and the bag read off it: its weight, and the pans from the first on.
-ghost use Rattle.std.specs.Prelude.{◌≡◌, ◌+◌, ◌-◌, ◌*◌, ◌<◌, ◌≤◌, true, ◌&&◌, length, nat_le, nat_lt, slice_index};
-ghost use Rattle.table.specs.Pans.{free_pans, none_due_empty, row_bytes};
-ghost use Rattle.table.specs.Rows.{Lightest, Read, Rows};
+ghost use Rattle.std.specs.Prelude.{◌≡◌, ℕ, ◌+◌, ◌-◌, ◌*◌, ◌^◌, ◌<◌, ◌≤◌, true, cond, length, nat_lt, slice_index};
+ghost use Rattle.choices.specs.Choice.{bit};
+ghost use Rattle.table.specs.Pans.{none_due_empty, pairs_of};
+ghost use Rattle.table.specs.Rows.{Lightest, Reaches, Read, Rows, back, joined, row_at};
 
-use crate::rows::BLOCK;
+use crate::pans::{due_at, free_at, pairs};
+use crate::shape::Shape;
 use choices::Ring;
 
-// The rows of a ring in which no pan that has to be opened is empty: one for no pan at all, and one for each free pan.
+// What a pan takes of a weight.
+fn taken(opened: bool, weight: usize) -> usize
+    ensures { result ≡ cond opened weight 0 }
+{
+    if opened { weight } else { 0 }
+}
+
+// A pan's part of the number that is answered.
+fn mark(opened: bool, pan: usize) -> u32
+    requires { pan < 32 }
+    ensures { result ≡ bit opened * 2 ^ pan }
+{
+    u32::from(opened) << pan
+}
+
+// The rows of a ring in which no pan that has to be opened is empty: one for no pan at all, and one for each two pans.
 #[derive(Clone, Copy)]
 pub struct Table<'a, 'b> {
     pub ring: Ring<'a>,
     pub span: usize,
-    pub rows: usize,
+    pub shape: Shape,
     pub bytes: &'b [u8],
     ghost ready: { none_due_empty ring.rule.age ring.weights.now ring.ages.now ≡ true },
-    ghost counted: { rows ≡ free_pans ring.rule.age ring.weights.now ring.ages.now },
-    ghost enough: { row_bytes span * (rows + 1) ≤ length bytes.now },
+    ghost whole: { span < 64 * shape.blocks },
+    ghost enough: { (shape.pad + 64 * shape.blocks) * (pairs_of (length ring.weights.now) + 1) ≤ length bytes.now },
 }
 
 impl Table<'_, '_> {
-    // Where the row of all pans starts.
+    // Where weight 0 stands in the row of all pans.
     fn top(self) -> usize
-        ensures { result ≡ row_bytes self.entry.span * self.entry.rows }
+        ensures { result ≡ self.entry.shape.pad + (self.entry.shape.pad + 64 * self.entry.shape.blocks) * pairs_of (length self.entry.ring.weights.now) }
     {
-        (self.span + BLOCK) * self.rows
+        self.shape.pad + self.shape.wide() * pairs(self.ring)
     }
 
     // The first weight of the window that few enough pans make.
     pub fn lightest(self, from: usize, limit: u8) -> Option<usize>
-        ensures { Lightest self.entry.bytes.now (row_bytes self.entry.span * self.entry.rows) from self.entry.span limit result }
+        ensures { Lightest self.entry.bytes.now (self.entry.shape.pad + (self.entry.shape.pad + 64 * self.entry.shape.blocks) * pairs_of (length self.entry.ring.weights.now)) from self.entry.span limit result }
     {
         let top = self.top();
         (from..self.span + 1).find(|x| self.bytes[top + *x] <= limit)
     }
 
-    // The pans of the choice that makes a weight, as the number that is answered. It goes down the rows by their width, a
-    // subtraction for each free pan.
+    // Which of two pans are opened for what they weigh, beside the row of those behind them: each where the rest then takes fewer.
+    // All that may be looked up is, before it is known which of it counts, so that no test has to be foretold.
+    fn opens(self, row: usize, left: usize, first: usize, second: usize) -> (bool, bool)
+        requires row { self.shape.pad + (self.shape.pad + 64 * self.shape.blocks) ≤ row }
+        requires left { row + left < length self.bytes.now }
+        requires small { (first ≤ 1000000) × (second ≤ 1000000) }
+        requires reach { self.shape.pad < first + second → left < self.shape.pad }
+        requires blank { (j : ℕ) → j < self.shape.pad → slice_index self.bytes.now (row - (self.shape.pad + 64 * self.shape.blocks) - self.shape.pad + j) ≡ 255 }
+        ensures first { result.0 ≡ nat_lt (back (joined (row_at self.entry.bytes.now (row - (self.entry.shape.pad + 64 * self.entry.shape.blocks))) second) first left) (row_at self.entry.bytes.now row left) }
+        ensures second { result.1 ≡ cond result.0 (nat_lt (back (row_at self.entry.bytes.now (row - (self.entry.shape.pad + 64 * self.entry.shape.blocks))) (first + second) left) (back (joined (row_at self.entry.bytes.now (row - (self.entry.shape.pad + 64 * self.entry.shape.blocks))) second) first left)) (nat_lt (back (row_at self.entry.bytes.now (row - (self.entry.shape.pad + 64 * self.entry.shape.blocks))) second left) (row_at self.entry.bytes.now row left)) }
+    {
+        let pad = self.shape.pad;
+        let rest = row - self.shape.wide() + left;
+        let whole = self.bytes[row + left];
+        let alone = self.bytes[rest - first.min(pad)];
+        let other = self.bytes[rest - second.min(pad)];
+        let both = self.bytes[rest - (first + second).min(pad)];
+        let with = alone.min(both.saturating_add(1));
+        let opens = with < whole;
+        let also = if opens { both < with } else { other < whole };
+        (opens, also)
+    }
+
+    // The pans of the choice that makes a weight, as the number that is answered.
     pub fn read(self, weight: usize) -> u32
-        requires rows { Rows self.ring.rule.age self.ring.weights.now self.ring.ages.now self.span (row_bytes self.span) 0 self.bytes.now }
+        requires rows { Rows self.ring.rule.age self.ring.weights.now self.ring.ages.now weight (64 * self.shape.blocks - 1) self.shape.pad (self.shape.pad + 64 * self.shape.blocks) 0 self.bytes.now }
+        requires reach { Reaches self.ring.rule.age self.ring.weights.now self.ring.ages.now self.shape.pad (64 * self.shape.blocks) }
         requires within { weight ≤ self.span }
-        requires some { slice_index self.bytes.now (row_bytes self.span * self.rows + weight) < 255 }
+        requires some { row_at self.bytes.now (self.shape.pad + (self.shape.pad + 64 * self.shape.blocks) * pairs_of (length self.ring.weights.now)) weight < 255 }
         ensures { Read self.entry.ring.rule.age self.entry.ring.weights.now self.entry.ring.ages.now weight result }
     {
         let mut row = self.top();
         let mut left = weight;
-        let mut pans = 0u32;
-        for (pan, (w, a)) in self.ring.weights.iter().zip(self.ring.ages).enumerate() {
-            let lies = *w as usize;
-            if *a >= self.ring.rule.age {
-                pans += 1 << pan;
-            } else if lies > 0 {
-                let whole = row;
-                row -= self.span + BLOCK;
-                if opens(self.bytes, whole, row, left, lies) {
-                    pans += 1 << pan;
-                    left -= lies;
-                }
-            }
+        let mut pans = 0;
+        for pair in 0..pairs(self.ring) {
+            let pan = 2 * pair;
+            let first = free_at(self.ring, pan);
+            let second = free_at(self.ring, pan + 1);
+            let (opens, also) = self.opens(row, left, first, second);
+            left -= taken(opens, first) + taken(also, second);
+            pans += mark(due_at(self.ring, pan) | opens, pan);
+            pans += mark(due_at(self.ring, pan + 1) | also, pan + 1);
+            row -= self.shape.wide();
         }
         pans
     }
-}
-
-// Whether a free pan is opened: the rest then takes fewer pans.
-fn opens(room: &[u8], whole: usize, rest: usize, left: usize, weight: usize) -> bool
-    requires { (whole + left < length room.now) × (rest + left < length room.now) }
-    ensures { result ≡ (nat_le weight left && nat_lt (slice_index room.now (rest + (left - weight))) (slice_index room.now (whole + left))) }
-{
-    weight <= left && room[rest + (left - weight)] < room[whole + left]
 }

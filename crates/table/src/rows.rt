@@ -1,88 +1,67 @@
 // The rows of the table: for each weight the least number of free pans that weigh so much.
-ghost use Rattle.std.specs.Prelude.{◌≡◌, ℕ, ◌+◌, ◌-◌, ◌*◌, ◌<◌, ◌≤◌, min, true, length, slice_index, EachIndex};
-ghost use Rattle.table.specs.Pans.{free_pans, none_due_empty, row_bytes};
-ghost use Rattle.table.specs.Rows.{Rows};
+ghost use Rattle.std.specs.Prelude.{◌≡◌, ℕ, ◌+◌, ◌-◌, ◌*◌, ◌<◌, ◌≤◌, true, ◌≢◌, length, slice_index};
+ghost use Rattle.table.specs.Pans.{none_due_empty, pairs_of};
+ghost use Rattle.table.specs.Rows.{Reaches, Rows, joined, row_at};
+ghost use Rattle.table.specs.Surveyed.{Surveyed};
 
+use crate::blocks::{BLOCK, add_block, blank};
+use crate::pans::{free_at, pairs};
+use crate::shape::Shape;
+use crate::survey::Survey;
 use choices::Ring;
 
-// A row is gone over in blocks of so many bytes, which a processor takes at once.
-pub const BLOCK: usize = 16;
-
-// A number of bytes in whole blocks, so that a pass over them has no odd end.
-fn blocks(bytes: usize) -> usize
-    requires { bytes ≤ 4000000 }
-    ensures low { bytes ≤ result }
-    ensures high { result ≤ bytes + 15 }
-{
-    (bytes + BLOCK - 1) / BLOCK * BLOCK
-}
-
 // The row of no pan at all: weight 0 takes no pan, and nothing else can be made.
-fn start_row(row: &mut [u8])
-    requires { 1 ≤ length row.old }
-    ensures none { slice_index row.new 0 ≡ 0 }
-    ensures rest { (x : ℕ) → 1 ≤ x → x < length row.old → slice_index row.new x ≡ 255 }
+fn start_row(row: &mut [u8], pad: usize)
+    requires { pad < length row.old }
+    ensures none { slice_index row.new pad ≡ 0 }
+    ensures rest { (x : ℕ) → x ≢ pad → x < length row.old → slice_index row.new x ≡ 255 }
 {
     row.fill(255);
-    row[0] = 0;
+    row[pad] = 0;
 }
 
-// Weights below a pan's are made without it. `copy_from_slice` was tried: its call makes a bag by short rows a third slower.
-fn copy_row(row: &mut [u8], without: &[u8])
-    requires { length without.now ≡ length row.old }
-    ensures { EachIndex row.old (λ x. slice_index row.new x ≡ slice_index without.now x) }
+// The row with two pans more, behind the row without them: made from one block on, and from another one on 255, since all its
+// pans together weigh less.
+fn add_pair(room: &mut [u8], row: usize, shape: Shape, low: usize, high: usize, first: usize, second: usize)
+    requires room { (shape.pad ≤ row) × (row + 64 * shape.blocks + (shape.pad + 64 * shape.blocks) ≤ length room.old) }
+    requires within { high ≤ shape.blocks }
+    requires small { (first ≤ 1000000) × (second ≤ 1000000) }
+    requires reach { shape.pad < first + second → 64 * shape.blocks ≤ shape.pad }
+    requires blank { (j : ℕ) → j < shape.pad → slice_index room.old (row - shape.pad + j) ≡ 255 }
+    ensures same { (j : ℕ) → j < row + 64 * shape.blocks → slice_index room.new j ≡ slice_index room.old j }
+    ensures blank { (j : ℕ) → j < shape.pad → slice_index room.new (row + 64 * shape.blocks + j) ≡ 255 }
+    ensures made { (x : ℕ) → 64 * low ≤ x → x < 64 * high → row_at room.new (row + (shape.pad + 64 * shape.blocks)) x ≡ joined (joined (row_at room.old row) second) first x }
+    ensures never { (x : ℕ) → 64 * high ≤ x → x < 64 * shape.blocks → row_at room.new (row + (shape.pad + 64 * shape.blocks)) x ≡ 255 }
 {
-    for (x, least) in row.iter_mut().enumerate() {
-        *least = without[x];
+    let pad = shape.pad;
+    let next = row + shape.wide();
+    blank(room, next - pad, pad / BLOCK);
+    for block in low..high {
+        add_block(room, row, next, pad, BLOCK * block, first, second);
     }
+    blank(room, next + BLOCK * high, shape.blocks - high);
 }
 
-// Weights from a pan's on: without it, or with it and one pan more than the rest takes, whichever is less.
-// The index stays: with a zip of `iter_mut` the proof did not close, since it knows no element that such a loop wrote.
-fn join_row(row: &mut [u8], without: &[u8], with: &[u8])
-    requires { (length without.now ≡ length row.old) × (length with.now ≡ length row.old) }
-    ensures { EachIndex row.old (λ x. slice_index row.new x ≡ min (slice_index without.now x) (min (slice_index with.now x + 1) 255)) }
-{
-    for (x, least) in row.iter_mut().enumerate() {
-        *least = without[x].min(with[x].saturating_add(1));
-    }
-}
-
-// The row with one free pan more, behind the row without it. Both passes go over whole blocks.
-fn add_pan(room: &mut [u8], row: usize, wide: usize, weight: usize)
-    requires { (16 ≤ wide) × ((wide ≤ 3000000) × (row + wide + wide ≤ length room.old)) }
-    ensures same { (j : ℕ) → j < row + wide → slice_index room.new j ≡ slice_index room.old j }
-    ensures without { (x : ℕ) → x + 16 ≤ wide → x < weight → slice_index room.new (row + wide + x) ≡ slice_index room.old (row + x) }
-    ensures with { (x : ℕ) → x + 16 ≤ wide → weight ≤ x → slice_index room.new (row + wide + x) ≡ min (slice_index room.old (row + x)) (min (slice_index room.old (row + (x - weight)) + 1) 255) }
-{
-    let width = wide - (BLOCK - 1);
-    let low = weight.min(width);
-    let front = blocks(low);
-    let count = blocks(width - low);
-    let (rows, next) = room.split_at_mut(row + wide);
-    let last = &rows[row..];
-    copy_row(&mut next[..front], &last[..front]);
-    join_row(
-        &mut next[low..low + count],
-        &last[low..low + count],
-        &last[..count],
-    );
-}
-
-// Every row, from that of no pan to that of all pans: a pan that has to be opened, or is empty, takes none.
-pub fn fill(ring: Ring, span: usize, room: &mut [u8])
+// Every row, from that of no pan to that of all pans, for the weights that matter: what the pans before can't make up for.
+pub fn fill(ring: Ring, seen: Survey, from: usize, shape: Shape, room: &mut [u8])
+    requires seen { Surveyed ring.rule.age ring.weights.now ring.ages.now seen }
     requires ready { none_due_empty ring.rule.age ring.weights.now ring.ages.now ≡ true }
-    requires small { span ≤ 2000000 }
-    requires enough { row_bytes span * (free_pans ring.rule.age ring.weights.now ring.ages.now + 1) ≤ length room.old }
-    ensures { Rows ring.entry.rule.age ring.entry.weights.now ring.entry.ages.now span (row_bytes span) 0 room.new }
+    requires reach { Reaches ring.rule.age ring.weights.now ring.ages.now shape.pad (64 * shape.blocks) }
+    requires enough { (shape.pad + 64 * shape.blocks) * (pairs_of (length ring.weights.now) + 1) ≤ length room.old }
+    ensures { Rows ring.entry.rule.age ring.entry.weights.now ring.entry.ages.now from (64 * shape.blocks - 1) shape.pad (shape.pad + 64 * shape.blocks) 0 room.new }
 {
-    let wide = span + BLOCK;
-    start_row(&mut room[..span + 1]);
-    let mut top = 0;
-    for (w, a) in ring.weights.iter().rev().zip(ring.ages.iter().rev()) {
-        if *a < ring.rule.age && *w > 0 {
-            add_pan(room, top, wide, *w as usize);
-            top += wide;
-        }
+    let wide = shape.wide();
+    let free = seen.free as usize;
+    start_row(&mut room[..wide], shape.pad);
+    let mut row = shape.pad;
+    let mut before = free;
+    for pair in (0..pairs(ring)).rev() {
+        let first = free_at(ring, 2 * pair);
+        let second = free_at(ring, 2 * pair + 1);
+        before -= first + second;
+        let low = from.saturating_sub(before) / BLOCK;
+        let high = shape.blocks.min((free - before) / BLOCK + 1);
+        add_pair(room, row, shape, low, high, first, second);
+        row += wide;
     }
 }

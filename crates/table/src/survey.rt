@@ -1,17 +1,16 @@
 // What one look over a ring tells of its table.
-ghost use Rattle.std.specs.Prelude.{◌≡◌, ◌+◌, ◌-◌, ◌^◌, ◌<◌, min, cond, ◌&&◌, ◌||◌, nat_le};
-ghost use Rattle.choices.specs.Choice.{bit};
+ghost use Rattle.std.specs.Prelude.{◌≡◌, ◌+◌, ◌-◌, ◌^◌, ◌<◌, min, max, cond, ◌&&◌, ◌||◌, nat_le};
 
 use choices::Rule;
 
-// What the pans weigh that have to be opened, and how many they are; what the others weigh, and how many of them are
-// not empty, each of which has a row; and whether no pan that has to be opened is empty.
+// What the pans weigh that have to be opened, and how many they are; what the others weigh, and the heaviest of them; and
+// whether no pan that has to be opened is empty.
 #[derive(Clone, Copy)]
 pub struct Survey {
     pub due: u32,
     pub held: u32,
     pub free: u32,
-    pub rows: usize,
+    pub heaviest: u32,
     pub ready: bool,
 }
 
@@ -21,23 +20,23 @@ impl Survey {
         due: 0,
         held: 0,
         free: 0,
-        rows: 0,
+        heaviest: 0,
         ready: true,
     };
 
     // The survey with one pan more.
     pub fn with(self, weight: u32, may_wait: bool) -> Survey
-        requires { (self.due + weight < 2 ^ 32) × ((self.free + weight < 2 ^ 32) × ((self.held + 1 < 2 ^ 32) × (self.rows + 1 < 2 ^ 32))) }
+        requires { (self.due + weight < 2 ^ 32) × ((self.free + weight < 2 ^ 32) × (self.held + 1 < 2 ^ 32)) }
         ensures due { result.due ≡ self.due + cond may_wait 0 weight }
         ensures held { result.held ≡ self.held + cond may_wait 0 1 }
         ensures free { result.free ≡ self.free + cond may_wait weight 0 }
-        ensures rows { result.rows ≡ self.rows + bit (may_wait && nat_le 1 weight) }
+        ensures heavy { result.heaviest ≡ max (cond may_wait weight 0) self.heaviest }
         ensures ready { result.ready ≡ (self.ready && (may_wait || nat_le 1 weight)) }
     {
         if may_wait {
             Survey {
                 free: self.free + weight,
-                rows: self.rows + usize::from(weight >= 1),
+                heaviest: weight.max(self.heaviest),
                 ..self
             }
         } else {

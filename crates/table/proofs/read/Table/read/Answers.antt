@@ -1,39 +1,56 @@
 -- What is left of the proof that the first choice is read.
-use Rattle.std.proofs.Common.{sym, ◌∙◌, arith}
-use Rattle.std.proofs.lemmas.Nat.{one_shl}
-use Rattle.table.proofs.Reading.{reading_fits, reading_due, reading_idle, reading_open, reading_shut, reading_room}
+use Rattle.std.proofs.Common.{◌≡◌, ℕ, ◌+◌, ◌-◌, ◌*◌, ◌^◌, ◌<◌, ◌≤◌, length, get_or, refl, sym, ◌∙◌, arith}
+use Rattle.std.proofs.Math.Pow.{pow_mono}
+use Rattle.table.specs.Pans.{pairs_of}
+use Rattle.table.proofs.Filling.{row_below, row_inside, rows_all}
+use Rattle.table.proofs.Reading.{reading_none, reading_two, reading_left, reading_all}
 use Rattle.table.proofs.read.Table.read.Goals as goal
 
-pub opens-requires : goal.opens-requires
-opens-requires c = let h = reading_room c.loop-pan.invariant.2 (omega arith) in omega (arith, h, rw c.args.self.counted at c.args.self.enough)
+pub loop-pair-init : goal.loop-pair-init
+loop-pair-init c =
+    let all : pairs_of (length c.args.self.ring.weights.now) - 0 ≡ pairs_of (length c.args.self.ring.weights.now) = omega arith in
+    (rw c.top-row.ensures (reading_none (rows_all c.requires.rows) (omega (arith, c.args.self.whole, c.requires.within)) c.requires.some), rw all c.top-row.ensures)
 
-pub loop-pan-preserved-then-a-self : goal.loop-pan-preserved-then-a-self
-loop-pan-preserved-then-a-self c =
-    let h = reading_fits c.loop-pan.invariant.2 c.requires.rows c.args.self.ring.paired c.in-Some.ensures.steps c.args.self.ring.few in (
-      c.in-Some.ensures.goes.keeps,
-      tt,
-      reading_due c.loop-pan.invariant.2 c.requires.rows c.args.self.ring.paired c.in-Some.ensures.steps c.if-a-self.true (omega (arith, one_shl c.in-Some.pan 32 (omega arith))),
-    )
+pub opens-opens-requires-clause-blank : goal.opens-opens-requires-clause-blank
+opens-opens-requires-clause-blank c =
+    let n = pairs_of (length c.args.self.ring.weights.now) in
+    let few : c.loop-pair.pair < n = rw c.pairs-pair-end.ensures at c.loop-pair-test.true in
+    let below = row_below _ _ _ _ _ few c.loop-pair.invariant.1 in
+    λ j short.
+    let e : c.loop-pair.row - (c.args.self.shape.pad + 64 * c.args.self.shape.blocks) - c.args.self.shape.pad ≡ (c.args.self.shape.pad + 64 * c.args.self.shape.blocks) * (n - (c.loop-pair.pair + 1)) = omega (arith, below.1) in
+    rw e (c.requires.rows.blank (c.loop-pair.pair + 1) j (omega arith) (omega arith) short)
 
-pub loop-pan-preserved-then-opens : goal.loop-pan-preserved-then-opens
-loop-pan-preserved-then-opens c =
-    let h = reading_fits c.loop-pan.invariant.2 c.requires.rows c.args.self.ring.paired c.in-Some.ensures.steps c.args.self.ring.few in (
-      c.in-Some.ensures.goes.keeps,
-      tt,
-      reading_open c.loop-pan.invariant.2 c.requires.rows c.args.self.ring.paired c.in-Some.ensures.steps c.if-a-self.false c.if-lies-gt0.true
-          (sym c.opens.ensures ∙ c.if-opens.true) (omega (arith, one_shl c.in-Some.pan 32 (omega arith))),
-    )
+pub overflow_sub-left : goal.overflow_sub-left
+overflow_sub-left c =
+    let few = rw c.pairs-pair-end.ensures at c.loop-pair-test.true in
+    let below = row_below _ _ _ _ _ few c.loop-pair.invariant.1 in
+    rw (c.taken.ensures, c.taken-in-loop-pair.ensures)
+    (reading_left c.args.self.ring.paired c.args.self.ready c.requires.rows few below.1 c.free_at-first.result c.free_at-second.result c.loop-pair.invariant.0
+    c.opens-opens.ensures.first c.opens-opens.ensures.second)
 
-pub loop-pan-preserved-else-opens : goal.loop-pan-preserved-else-opens
-loop-pan-preserved-else-opens c = (
-  c.in-Some.ensures.goes.keeps,
-  tt,
-  reading_shut c.loop-pan.invariant.2 c.requires.rows c.args.self.ring.paired c.in-Some.ensures.steps c.if-a-self.false c.if-lies-gt0.true (sym c.opens.ensures ∙ c.if-opens.false),
-)
+pub overflow_sub-row : goal.overflow_sub-row
+overflow_sub-row c =
+    let few = rw c.pairs-pair-end.ensures at c.loop-pair-test.true in
+    omega (arith, (row_below _ _ _ _ _ few c.loop-pair.invariant.1).0, c.wide-row.ensures)
 
-pub loop-pan-preserved : goal.loop-pan-preserved
-loop-pan-preserved c = (
-  c.in-Some.ensures.goes.keeps,
-  tt,
-  reading_idle c.loop-pan.invariant.2 c.requires.rows c.args.self.ring.paired c.in-Some.ensures.steps c.if-a-self.false c.if-lies-gt0.false,
-)
+pub overflow_add-pans-in-loop-pair : goal.overflow_add-pans-in-loop-pair
+overflow_add-pans-in-loop-pair c =
+    let few = rw c.pairs-pair-end.ensures at c.loop-pair-test.true in
+    let below = row_below _ _ _ _ _ few c.loop-pair.invariant.1 in
+    let h =
+    reading_two c.args.self.ring.paired c.args.self.ready c.requires.rows few below.1 (c.loop-pair.left - (c.taken.result + c.taken-in-loop-pair.result))
+    (c.loop-pair.pans + c.mark-pans.result) (c.loop-pair.pans + c.mark-pans.result + c.mark-pans-in-loop-pair.result) c.loop-pair.invariant.0
+    (rw (c.free_at-first.ensures, c.free_at-second.ensures) at c.opens-opens.ensures.first) (rw (c.free_at-first.ensures, c.free_at-second.ensures) at c.opens-opens.ensures.second)
+    (omega (arith, rw c.free_at-first.ensures at c.taken.ensures, rw c.free_at-second.ensures at c.taken-in-loop-pair.ensures))
+    (omega (arith, rw c.due_at.ensures at c.mark-pans.ensures)) (omega (arith, rw c.due_at-in-loop-pair.ensures at c.mark-pans-in-loop-pair.ensures)) in
+    omega (arith, h.small, pow_mono {i = 2 * (c.loop-pair.pair + 1)} {j = 24} (omega (arith, few, c.args.self.ring.few)))
+
+pub loop-pair-preserved : goal.loop-pair-preserved
+loop-pair-preserved c =
+    let few = rw c.pairs-pair-end.ensures at c.loop-pair-test.true in
+    let below = row_below _ _ _ _ _ few c.loop-pair.invariant.1 in
+    rw (c.wide-row.ensures) (reading_two c.args.self.ring.paired c.args.self.ready c.requires.rows few below.1 (c.loop-pair.left - (c.taken.result + c.taken-in-loop-pair.result))
+    (c.loop-pair.pans + c.mark-pans.result) (c.loop-pair.pans + c.mark-pans.result + c.mark-pans-in-loop-pair.result) c.loop-pair.invariant.0
+    (rw (c.free_at-first.ensures, c.free_at-second.ensures) at c.opens-opens.ensures.first) (rw (c.free_at-first.ensures, c.free_at-second.ensures) at c.opens-opens.ensures.second)
+    (omega (arith, rw c.free_at-first.ensures at c.taken.ensures, rw c.free_at-second.ensures at c.taken-in-loop-pair.ensures))
+    (omega (arith, rw c.due_at.ensures at c.mark-pans.ensures)) (omega (arith, rw c.due_at-in-loop-pair.ensures at c.mark-pans-in-loop-pair.ensures)), below.1)

@@ -1,12 +1,11 @@
--- What the loop that reads the pans keeps.
-use Rattle.std.specs.Slice.Iter.{iter_rest}
-use Rattle.std.specs.Iterator.Adapters.{enumerate_count, enumerate_source, zip_first, zip_second}
-use Rattle.table.specs.Pans.{row_bytes}
+-- What the loop that reads the pans, two by two, keeps.
+use Rattle.std.proofs.Common.{◌≡◌, ◌+◌, ◌-◌, ◌*◌, length}
+use Rattle.table.specs.Pans.{pairs_of}
+use Rattle.table.specs.Rows.{row_at}
 use Rattle.table.proofs.Reading.{Reading}
 use Rattle.table.proofs.read.Table.read.Given as goal
 
-abbrev pub invariant-loop-pan : goal.invariant-loop-pan
-invariant-loop-pan l =
-    (goal.iterator-loop-pan).can_next l.pan-iterator × (goal.iterator-loop-pan).is_finite l.pan-iterator
-    × Reading l.self.ring.rule.age l.self.ring.weights.now l.self.ring.ages.now (iter_rest (zip_first (enumerate_source l.pan-iterator)))
-    (iter_rest (zip_second (enumerate_source l.pan-iterator))) l.self.span (row_bytes l.self.span) l.weight (enumerate_count l.pan-iterator) l.row l.left l.pans l.self.bytes.now
+abbrev pub invariant-loop-pair : goal.invariant-loop-pair
+invariant-loop-pair l =
+    Reading l.self.ring.rule.age l.self.ring.weights.now l.self.ring.ages.now (64 * l.self.shape.blocks - 1) l.weight (2 * l.pair) l.left (row_at l.self.bytes.now l.row l.left) l.pans
+    × (l.row ≡ l.self.shape.pad + (l.self.shape.pad + 64 * l.self.shape.blocks) * (pairs_of (length l.self.ring.weights.now) - l.pair))

@@ -1,0 +1,74 @@
+-- What stands a pan's weight back in a row that has 255 in front, and rows joined with two pans in one pass.
+use Rattle.std.proofs.Common.{◌≡◌, ℕ, ◌+◌, ◌-◌, ◌*◌, ◌/◌, ◌<◌, ◌≤◌, min, ◌⊎◌, List, get_or, refl, inl, inr, arith}
+use Rattle.std.proofs.lemmas.Bool.{cases_lt, le-leb, lt-leb}
+use Rattle.table.specs.Pans.{pad_of, width_of}
+use Rattle.table.specs.Rows.{back, joined, row_at}
+
+-- two pans reach no further back than the pad, or it is as long as the row
+pub pad_reaches : (most heavy u v : ℕ) → u ≤ heavy → v ≤ heavy → pad_of most heavy < u + v → width_of most ≤ pad_of most heavy
+unfolding pad_of
+pad_reaches most heavy u v first second less = omega arith
+
+pub back_far : (f : ℕ → ℕ) (w x : ℕ) → x < w → back f w x ≡ 255
+back_far f w x h = rw (lt-leb w x h) refl
+
+pub back_near : (f : ℕ → ℕ) (w x : ℕ) → w ≤ x → back f w x ≡ f (x - w)
+back_near f w x h = rw (le-leb w x h) refl
+
+-- a pan in which nothing lies free changes nothing
+pub joined_nothing : (f : ℕ → ℕ) (x : ℕ) → joined f 0 x ≡ min (f x) 255
+joined_nothing f x = let e : x - 0 ≡ x = omega arith in rw (back_near f 0 x (omega arith), e) (omega arith)
+
+-- what is read a weight back, or from the front of the pad where that is too far
+pub shifted :
+    (bytes : List ℕ) (row pad w x : ℕ) → pad ≤ row → ((j : ℕ) → j < pad → get_or bytes (row - pad + j) 0 ≡ 255) → (pad < w → x < pad) →
+    get_or bytes (row + x - min w pad) 0 ≡ back (row_at bytes row) w x
+shifted bytes row pad w x low blank reach = at (cases_lt x w) (cases_lt pad w)
+  where
+    at : (x < w) ⊎ (w ≤ x) → (pad < w) ⊎ (w ≤ pad) → get_or bytes (row + x - min w pad) 0 ≡ back (row_at bytes row) w x
+    at (inl far) (inl more) =
+        let e : row + x - min w pad ≡ row - pad + x = omega arith in
+        rw (e, back_far (row_at bytes row) w x far) (blank x (reach more))
+    at (inl far) (inr less) =
+        let e : row + x - min w pad ≡ row - pad + (pad + x - w) = omega arith in
+        rw (e, back_far (row_at bytes row) w x far) (blank (pad + x - w) (omega arith))
+    at (inr near) (inl more) = absurd (omega (arith, reach more))
+    at (inr near) (inr less) =
+        let e : row + x - min w pad ≡ row + (x - w) = omega arith in
+        rw (e, back_near (row_at bytes row) w x near) refl
+
+-- two pans back is one pan back of what is one pan back
+pub back_both : (f : ℕ → ℕ) (u v x : ℕ) → u ≤ x → back f (u + v) x ≡ back f v (x - u)
+back_both f u v x near = at (cases_lt x (u + v))
+  where
+    at : (x < u + v) ⊎ (u + v ≤ x) → back f (u + v) x ≡ back f v (x - u)
+    at (inl far) = rw (back_far f (u + v) x far, back_far f v (x - u) (omega arith)) refl
+    at (inr more) =
+        let e : x - (u + v) ≡ x - u - v = omega arith in
+        rw (back_near f (u + v) x more, back_near f v (x - u) (omega arith), e) refl
+
+-- one pan back of a row with another pan
+pub back_joined :
+    (f : ℕ → ℕ) (u v x : ℕ) → min (back f u x) (min (back f (u + v) x + 1) 255) ≡ back (joined f v) u x
+back_joined f u v x = at (cases_lt x u)
+  where
+    at : (x < u) ⊎ (u ≤ x) → min (back f u x) (min (back f (u + v) x + 1) 255) ≡ back (joined f v) u x
+    at (inl far) = rw (back_far f u x far, back_far f (u + v) x (omega arith), back_far (joined f v) u x far) refl
+    at (inr h) = rw (back_near f u x h, back_both f u v x h, back_near (joined f v) u x h) refl
+
+-- four places in one
+pub four_joined :
+    (f : ℕ → ℕ) (u v x : ℕ) →
+    min (f x) (min (min (back f v x) (min (back f u x) (min (back f (u + v) x + 1) 255)) + 1) 255) ≡ joined (joined f v) u x
+four_joined f u v x = rw (back_joined f u v x) (omega arith)
+
+-- rows that agree up to a weight
+pub joined_same : (f g : ℕ → ℕ) (w x : ℕ) → ((z : ℕ) → z ≤ x → f z ≡ g z) → joined f w x ≡ joined g w x
+joined_same f g w x same = at (cases_lt x w)
+  where
+    at : (x < w) ⊎ (w ≤ x) → joined f w x ≡ joined g w x
+    at (inl far) = rw (back_far f w x far, back_far g w x far, same x (omega arith)) refl
+    at (inr near) = rw (back_near f w x near, back_near g w x near, same x (omega arith), same (x - w) (omega arith)) refl
+
+pub both_same : (f g : ℕ → ℕ) (v u x : ℕ) → ((z : ℕ) → z ≤ x → f z ≡ g z) → joined (joined f v) u x ≡ joined (joined g v) u x
+both_same f g v u x same = joined_same (joined f v) (joined g v) u x (λ z low. joined_same f g v z (λ y less. same y (omega arith)))

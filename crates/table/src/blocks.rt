@@ -1,0 +1,61 @@
+// Rows are gone over in blocks, of which a processor takes a part at once.
+ghost use Rattle.std.specs.Prelude.{◌≡◌, ℕ, ◌+◌, ◌-◌, ◌*◌, ◌<◌, ◌≤◌, min, length, slice_index};
+ghost use Rattle.table.specs.Rows.{joined, row_at};
+
+pub const BLOCK: usize = 64;
+
+// Four blocks in one: without two pans, with the second or the first and one pan more, or with both and two more, whichever is least.
+fn join(room: &[u8], shut: usize, second: usize, first: usize, both: usize) -> [u8; BLOCK]
+    requires near { (shut + 64 ≤ length room.now) × (second + 64 ≤ length room.now) }
+    requires far { (first + 64 ≤ length room.now) × (both + 64 ≤ length room.now) }
+    ensures { (x : ℕ) → x < 64 → slice_index result x ≡ min (slice_index room.now (shut + x)) (min (min (slice_index room.now (second + x)) (min (slice_index room.now (first + x)) (min (slice_index room.now (both + x) + 1) 255)) + 1) 255) }
+{
+    let mut made = [0; BLOCK];
+    for x in 0..BLOCK {
+        let open = room[first + x].min(room[both + x].saturating_add(1));
+        made[x] = room[shut + x].min(room[second + x].min(open).saturating_add(1));
+    }
+    made
+}
+
+// Writes a block at a place; nothing before it changes.
+fn put(room: &mut [u8], at: usize, block: [u8; BLOCK])
+    requires { at + 64 ≤ length room.old }
+    ensures same { (j : ℕ) → j < at → slice_index room.new j ≡ slice_index room.old j }
+    ensures made { (x : ℕ) → x < 64 → slice_index room.new (at + x) ≡ slice_index block x }
+{
+    for x in 0..BLOCK {
+        room[at + x] = block[x];
+    }
+}
+
+// Writes so many blocks of 255, where no weight is or none can be made.
+pub fn blank(room: &mut [u8], from: usize, blocks: usize)
+    requires { from + 64 * blocks ≤ length room.old }
+    ensures same { (j : ℕ) → j < from → slice_index room.new j ≡ slice_index room.old j }
+    ensures blank { (x : ℕ) → x < 64 * blocks → slice_index room.new (from + x) ≡ 255 }
+{
+    for block in 0..blocks {
+        put(room, from + BLOCK * block, [255; BLOCK]);
+    }
+}
+
+// A block, from a weight on, of the row with two pans more, made from a row with so many bytes of 255 in front.
+pub fn add_block(room: &mut [u8], row: usize, next: usize, pad: usize, from: usize, first: usize, second: usize)
+    requires room { (pad ≤ row) × ((row + 64 ≤ next) × (next + from + 64 ≤ length room.old)) }
+    requires small { (first ≤ 1000000) × (second ≤ 1000000) }
+    requires reach { pad < first + second → from + 64 ≤ pad }
+    requires blank { (j : ℕ) → j < pad → slice_index room.old (row - pad + j) ≡ 255 }
+    ensures same { (j : ℕ) → j < next + from → slice_index room.new j ≡ slice_index room.old j }
+    ensures made { (x : ℕ) → x < 64 → row_at room.new next (from + x) ≡ joined (joined (row_at room.old row) second) first (from + x) }
+{
+    let here = row + from;
+    let made = join(
+        room,
+        here,
+        here - second.min(pad),
+        here - first.min(pad),
+        here - (first + second).min(pad),
+    );
+    put(room, next + from, made);
+}
