@@ -1,12 +1,12 @@
 -- The first weight of the window that few enough pans make is the best bag's, and the first choice of it the best.
-use Rattle.std.proofs.Common.{◌≡◌, ℕ, ◌+◌, ◌-◌, ◌*◌, ◌<◌, ◌≤◌, min, Bool, true, false, cond, ◌&&◌, ◌||◌, eqb, ltb, leb, ◌⊎◌, List, [], ◌∷◌, length, get_or, None, sym, refl, ◌∙◌, inl, inr, arith}
+use Rattle.std.proofs.Common.{◌≡◌, ℕ, ◌+◌, ◌-◌, ◌*◌, ◌<◌, ◌≤◌, min, Bool, true, false, ◌&&◌, ◌||◌, eqb, ltb, leb, ◌⊎◌, List, [], ◌∷◌, length, get_or, None, sym, refl, ◌∙◌, inl, inr, arith}
 use Rattle.std.proofs.lemmas.Bool.{and_parts, and_from, both_ways, cases_lt, false_from_ne_true, or_right, le-leb, leb-true}
 use Rattle.std.proofs.lemmas.Bool.Decides.{nat_tests}
 use Rattle.choices.specs.Choice.{Choice, weight_of, opened, none_empty, keeps_old, fits}
 use Rattle.choices.specs.declared.rule.Rule.{Rule}
 use Rattle.choices.proofs.Choices.{Fitting, fitting, fits_from}
 use Rattle.order.specs.Order.{better, first_more, NoneOf, BestBag}
-use Rattle.table.specs.Pans.{due_weight, due_pans, free_weight, free_at, none_due_empty, span_of, pairs_of, pad_of, width_of, row_bytes, table_bytes}
+use Rattle.table.specs.Pans.{due_weight, due_pans, free_at, none_due_empty, span_of, pairs_of, pad_of, width_of, row_bytes, table_bytes}
 use Rattle.table.specs.Rows.{Makes, Reaches, Row, Rows, Read, Lightest, LightestAt, row_at}
 use Rattle.table.specs.Surveyed.{Surveyed}
 use Rattle.table.specs.declared.survey.Survey.{Survey}

@@ -1,7 +1,7 @@
 -- The choice that is read off the rows, pan by pan: what is read so far, with the first choice of what is left, is the first of all.
-use Rattle.std.proofs.Common.{◌≡◌, ℕ, ◌+◌, ◌-◌, ◌*◌, ◌^◌, ◌<◌, ◌≤◌, min, Bool, true, false, cond, ◌||◌, ltb, leb, ◌⊎◌, List, [], ◌∷◌, length, get_or, drop, sym, refl, ◌∙◌, inl, inr, mul_assoc, mul_comm, mul-one, mul-add, add-one, arith}
+use Rattle.std.proofs.Common.{◌≡◌, ℕ, ◌+◌, ◌-◌, ◌*◌, ◌^◌, ◌<◌, ◌≤◌, Bool, true, false, cond, ◌||◌, ltb, leb, ◌⊎◌, List, [], ◌∷◌, length, get_or, drop, sym, refl, ◌∙◌, inl, inr, mul_assoc, mul_comm, mul-one, mul-add, add-one, arith}
 use native.Mathlib.Nat.{pow-succ'}
-use Rattle.std.proofs.lemmas.List.{drop_all, length-drop}
+use Rattle.std.proofs.lemmas.List.{drop_all}
 use Rattle.std.proofs.lemmas.Bool.{cases_lt, and_parts, le-ltb, lt-ltb, ltb-true, ltb-false, leb-true, leb-false}
 use Rattle.choices.specs.Choice.{Choice, bit, opened}
 use Rattle.choices.specs.Numbered.{number_of}
@@ -235,10 +235,10 @@ module _
     reading_two left'' pans' pans'' {left} {count} {pans} {o} {o'} h is is' rest number number' =
         let one : Reading old ws as' most x (2 * pair + 1) (left - cond o (free_at old ws as' (2 * pair)) 0) (cond o (back (joined (row_at bytes row) (free_at old ws as' (2 * pair + 1))) (free_at old ws as' (2 * pair)) left) count) pans'
         = reading_next h paired ready (row_next old ws as' (2 * pair + 1) paired x ready behind) refl
-          (stepped old ws as' (2 * pair) (free_at old ws as' (2 * pair)) (back (joined (row_at bytes row) (free_at old ws as' (2 * pair + 1))) (free_at old ws as' (2 * pair)) left) left count pans o is refl number) in
+        (stepped old ws as' (2 * pair) (free_at old ws as' (2 * pair)) (back (joined (row_at bytes row) (free_at old ws as' (2 * pair + 1))) (free_at old ws as' (2 * pair)) left) left count pans o is refl number) in
         let both : Reading old ws as' most x (2 * pair + 1 + 1) left'' (cond o' (back (row_at bytes row) (free_at old ws as' (2 * pair + 1)) (left - cond o (free_at old ws as' (2 * pair)) 0)) (cond o (back (joined (row_at bytes row) (free_at old ws as' (2 * pair + 1))) (free_at old ws as' (2 * pair)) left) count)) pans''
         = reading_next one paired ready behind refl
-          (stepped old ws as' (2 * pair + 1) (free_at old ws as' (2 * pair + 1)) (back (row_at bytes row) (free_at old ws as' (2 * pair + 1)) (left - cond o (free_at old ws as' (2 * pair)) 0)) (left - cond o (free_at old ws as' (2 * pair)) 0) (cond o (back (joined (row_at bytes row) (free_at old ws as' (2 * pair + 1))) (free_at old ws as' (2 * pair)) left) count) pans' o' (is' ∙ beside o is) (omega (arith, rest)) number') in
+        (stepped old ws as' (2 * pair + 1) (free_at old ws as' (2 * pair + 1)) (back (row_at bytes row) (free_at old ws as' (2 * pair + 1)) (left - cond o (free_at old ws as' (2 * pair)) 0)) (left - cond o (free_at old ws as' (2 * pair)) 0) (cond o (back (joined (row_at bytes row) (free_at old ws as' (2 * pair + 1))) (free_at old ws as' (2 * pair)) left) count) pans' o' (is' ∙ beside o is) (omega (arith, rest)) number') in
         rw two (reading_same both (behind.least left'' (omega (arith, both.reach)) both.within))
       where
         -- what the rest takes without the second pan and with it

@@ -41,7 +41,15 @@ pub fn blank(room: &mut [u8], from: usize, blocks: usize)
 }
 
 // A block, from a weight on, of the row with two pans more, made from a row with so many bytes of 255 in front.
-pub fn add_block(room: &mut [u8], row: usize, next: usize, pad: usize, from: usize, first: usize, second: usize)
+pub fn add_block(
+    room: &mut [u8],
+    row: usize,
+    next: usize,
+    pad: usize,
+    from: usize,
+    first: usize,
+    second: usize,
+)
     requires room { (pad ≤ row) × ((row + 64 ≤ next) × (next + from + 64 ≤ length room.old)) }
     requires small { (first ≤ 1000000) × (second ≤ 1000000) }
     requires reach { pad < first + second → from + 64 ≤ pad }

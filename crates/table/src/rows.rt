@@ -22,7 +22,15 @@ fn start_row(row: &mut [u8], pad: usize)
 
 // The row with two pans more, behind the row without them: made from one block on, and from another one on 255, since all its
 // pans together weigh less.
-fn add_pair(room: &mut [u8], row: usize, shape: Shape, low: usize, high: usize, first: usize, second: usize)
+fn add_pair(
+    room: &mut [u8],
+    row: usize,
+    shape: Shape,
+    low: usize,
+    high: usize,
+    first: usize,
+    second: usize,
+)
     requires room { (shape.pad ≤ row) × (row + 64 * shape.blocks + (shape.pad + 64 * shape.blocks) ≤ length room.old) }
     requires within { high ≤ shape.blocks }
     requires small { (first ≤ 1000000) × (second ≤ 1000000) }

@@ -1,7 +1,7 @@
 -- What is left of the proof that the best bag is answered.
-use Rattle.std.proofs.Common.{◌≡◌, ℕ, ◌+◌, ◌*◌, ◌<◌, ◌≤◌, sym, ◌∙◌, arith}
+use Rattle.std.proofs.Common.{sym, ◌∙◌, arith}
 use Rattle.std.proofs.lemmas.Bool.{and_parts}
-use Rattle.table.proofs.Bests.{reaches, rows_fit, rows_from, window, none_left, none_found, best_found}
+use Rattle.table.proofs.Bests.{reaches, rows_fit, window, none_left, none_found, best_found}
 use Rattle.table.proofs.answer.best.Goals as goal
 
 pub returns-then-not-leaves_a_bag : goal.returns-then-not-leaves_a_bag

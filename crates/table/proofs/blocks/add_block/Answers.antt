@@ -1,6 +1,6 @@
 -- What is left of the proof that a block is made with two pans more.
-use Rattle.std.proofs.Common.{◌≡◌, ℕ, ◌+◌, ◌-◌, ◌<◌, min, get_or, refl, ◌∙◌, arith}
-use Rattle.table.specs.Rows.{row_at, joined, back}
+use Rattle.std.proofs.Common.{◌≡◌, ℕ, ◌+◌, ◌-◌, ◌<◌, min, get_or, ◌∙◌, arith}
+use Rattle.table.specs.Rows.{row_at, back}
 use Rattle.table.proofs.Joining.{shifted, four_joined}
 use Rattle.table.proofs.blocks.add_block.Goals as goal
 

@@ -1,5 +1,5 @@
 -- What is left of the proof of the bytes that a table takes.
-use Rattle.std.proofs.Common.{◌≡◌, ℕ, ◌+◌, ◌*◌, sym, ◌∙◌, arith}
+use Rattle.std.proofs.Common.{◌∙◌}
 use Rattle.table.specs.Pans.{table_bytes, row_bytes}
 use Rattle.table.proofs.Surveying.{span_is}
 use Rattle.table.proofs.look.room_for.Goals as goal

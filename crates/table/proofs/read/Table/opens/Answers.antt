@@ -1,5 +1,5 @@
 -- What is left of the proof which of two pans are opened.
-use Rattle.std.proofs.Common.{◌≡◌, ℕ, ◌+◌, ◌-◌, ◌*◌, ◌<◌, min, Bool, true, false, cond, ltb, List, get_or, refl, sym, ◌∙◌, arith}
+use Rattle.std.proofs.Common.{◌≡◌, ℕ, ◌+◌, ◌-◌, ◌*◌, ◌<◌, min, List, get_or, refl, ◌∙◌, arith}
 use Rattle.std.proofs.lemmas.Bool.{le-ltb, lt-ltb}
 use Rattle.table.specs.Rows.{back, joined, row_at}
 use Rattle.table.proofs.Joining.{shifted, back_joined}
@@ -39,7 +39,7 @@ returns-then-opens-clause-second c =
     = λ w far. shifted bytes rest pad w c.args.left (omega (arith, c.requires.row)) c.requires.blank far in
     let with : c.min-with.result ≡ back (joined (row_at bytes rest) c.args.second) c.args.first c.args.left
     = with_of bytes rest pad c.args.left c.args.first c.args.second c.min.result c.min-3.result c.min-with.result c.requires.reach (λ far. c.requires.reach (omega arith))
-      at c.min.ensures c.min-3.ensures (omega (arith, more, less)) in
+    at c.min.ensures c.min-3.ensures (omega (arith, more, less)) in
     let both : get_or bytes (rest + c.args.left - c.min-3.result) 0 ≡ back (row_at bytes rest) (c.args.first + c.args.second) c.args.left
     = rw c.min-3.ensures (at (c.args.first + c.args.second) c.requires.reach) in
     rw (lt-ltb _ _ c.if-opens.true, e, both, with) refl

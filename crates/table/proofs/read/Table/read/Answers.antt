@@ -1,9 +1,9 @@
 -- What is left of the proof that the first choice is read.
-use Rattle.std.proofs.Common.{◌≡◌, ℕ, ◌+◌, ◌-◌, ◌*◌, ◌^◌, ◌<◌, ◌≤◌, length, get_or, refl, sym, ◌∙◌, arith}
+use Rattle.std.proofs.Common.{◌≡◌, ◌+◌, ◌-◌, ◌*◌, ◌<◌, length, arith}
 use Rattle.std.proofs.Math.Pow.{pow_mono}
 use Rattle.table.specs.Pans.{pairs_of}
-use Rattle.table.proofs.Filling.{row_below, row_inside, rows_all}
-use Rattle.table.proofs.Reading.{reading_none, reading_two, reading_left, reading_all}
+use Rattle.table.proofs.Filling.{row_below, rows_all}
+use Rattle.table.proofs.Reading.{reading_none, reading_two, reading_left}
 use Rattle.table.proofs.read.Table.read.Goals as goal
 
 pub loop-pair-init : goal.loop-pair-init
@@ -49,8 +49,11 @@ pub loop-pair-preserved : goal.loop-pair-preserved
 loop-pair-preserved c =
     let few = rw c.pairs-pair-end.ensures at c.loop-pair-test.true in
     let below = row_below _ _ _ _ _ few c.loop-pair.invariant.1 in
-    rw (c.wide-row.ensures) (reading_two c.args.self.ring.paired c.args.self.ready c.requires.rows few below.1 (c.loop-pair.left - (c.taken.result + c.taken-in-loop-pair.result))
-    (c.loop-pair.pans + c.mark-pans.result) (c.loop-pair.pans + c.mark-pans.result + c.mark-pans-in-loop-pair.result) c.loop-pair.invariant.0
-    (rw (c.free_at-first.ensures, c.free_at-second.ensures) at c.opens-opens.ensures.first) (rw (c.free_at-first.ensures, c.free_at-second.ensures) at c.opens-opens.ensures.second)
-    (omega (arith, rw c.free_at-first.ensures at c.taken.ensures, rw c.free_at-second.ensures at c.taken-in-loop-pair.ensures))
-    (omega (arith, rw c.due_at.ensures at c.mark-pans.ensures)) (omega (arith, rw c.due_at-in-loop-pair.ensures at c.mark-pans-in-loop-pair.ensures)), below.1)
+    rw (c.wide-row.ensures) (
+      reading_two c.args.self.ring.paired c.args.self.ready c.requires.rows few below.1 (c.loop-pair.left - (c.taken.result + c.taken-in-loop-pair.result))
+          (c.loop-pair.pans + c.mark-pans.result) (c.loop-pair.pans + c.mark-pans.result + c.mark-pans-in-loop-pair.result) c.loop-pair.invariant.0
+          (rw (c.free_at-first.ensures, c.free_at-second.ensures) at c.opens-opens.ensures.first) (rw (c.free_at-first.ensures, c.free_at-second.ensures) at c.opens-opens.ensures.second)
+          (omega (arith, rw c.free_at-first.ensures at c.taken.ensures, rw c.free_at-second.ensures at c.taken-in-loop-pair.ensures))
+          (omega (arith, rw c.due_at.ensures at c.mark-pans.ensures)) (omega (arith, rw c.due_at-in-loop-pair.ensures at c.mark-pans-in-loop-pair.ensures)),
+      below.1,
+    )

@@ -1,5 +1,5 @@
 -- What is left of the proof of a row's shape.
-use Rattle.std.proofs.Common.{◌*◌, arith}
+use Rattle.std.proofs.Common.{arith}
 use Rattle.table.specs.Pans.{pad_of}
 use Rattle.table.proofs.shape.Shape.of.Goals as goal
 
