@@ -29,14 +29,27 @@ fn put(room: &mut [u8], at: usize, block: [u8; BLOCK])
     }
 }
 
-// Writes so many blocks of 255, where no weight is or none can be made.
-pub fn blank(room: &mut [u8], from: usize, blocks: usize)
-    requires { from + 64 * blocks ≤ length room.old }
-    ensures same { (j : ℕ) → j < from → slice_index room.new j ≡ slice_index room.old j }
-    ensures blank { (x : ℕ) → x < 64 * blocks → slice_index room.new (from + x) ≡ 255 }
+// The block at a place.
+fn get(room: &[u8], at: usize) -> [u8; BLOCK]
+    requires { at + 64 ≤ length room.now }
+    ensures { (x : ℕ) → x < 64 → slice_index result x ≡ slice_index room.now (at + x) }
+{
+    let mut block = [0; BLOCK];
+    for x in 0..BLOCK {
+        block[x] = room[at + x];
+    }
+    block
+}
+
+// Copies so many blocks to a place behind them. Block by block, which takes less time than the call that copies or fills a slice.
+pub fn copy_blocks(room: &mut [u8], from: usize, to: usize, blocks: usize)
+    requires { (from + 64 * blocks ≤ to) × (to + 64 * blocks ≤ length room.old) }
+    ensures same { (j : ℕ) → j < to → slice_index room.new j ≡ slice_index room.old j }
+    ensures made { (x : ℕ) → x < 64 * blocks → slice_index room.new (to + x) ≡ slice_index room.old (from + x) }
 {
     for block in 0..blocks {
-        put(room, from + BLOCK * block, [255; BLOCK]);
+        let made = get(room, from + BLOCK * block);
+        put(room, to + BLOCK * block, made);
     }
 }
 
