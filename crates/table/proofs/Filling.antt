@@ -5,7 +5,7 @@ use Rattle.std.proofs.lemmas.Bool.{cases_lt, and_parts, both_ways, leb-false}
 use Rattle.table.specs.Pans.{free_weight, free_at, free_before, none_due_empty, pairs_of}
 use Rattle.table.specs.Rows.{Least, Row, Rows, joined, row_at}
 use Rattle.table.proofs.Joining.{back_far, back_near, joined_nothing}
-use Rattle.table.proofs.Making.{least_due, least_barred, least_both, least_cap, least_nothing, least_never}
+use Rattle.table.proofs.Making.{least_due, least_barred, least_both, least_cap, least_heavy, least_nothing, least_never}
 
 free_drop_le : (old : ℕ) (j : ℕ) (ws as' : List ℕ) → free_weight old (drop j ws) (drop j as') ≤ free_weight old ws as'
 free_drop_le old zero ws as' = omega arith
@@ -144,14 +144,14 @@ filling_none old ws as' from most pad wide lies bytes paired less is none rest =
 
 -- a row more: the older ones stay
 pub filling_next :
-    {old : ℕ} {ws as' : List ℕ} {from most pad wide pair row before before' : ℕ} {bytes bytes' : List ℕ} → length as' ≡ length ws → none_due_empty old ws as' ≡ true →
+    {old : ℕ} {ws as' : List ℕ} {from most pad wide pair row before before' high : ℕ} {bytes bytes' : List ℕ} → length as' ≡ length ws → none_due_empty old ws as' ≡ true →
     pair < pairs_of (length ws) → pad + most < wide → Filling old ws as' from most pad wide (pair + 1) row before bytes →
-    before ≡ before' + (free_at old ws as' (2 * pair) + free_at old ws as' (2 * pair + 1)) →
+    before ≡ before' + (free_at old ws as' (2 * pair) + free_at old ws as' (2 * pair + 1)) → ((x : ℕ) → high ≤ x → x ≤ most → free_weight old ws as' < before' + x) →
     ((j : ℕ) → j < row + (wide - pad) → get_or bytes' j 0 ≡ get_or bytes j 0) → ((j : ℕ) → j < pad → get_or bytes' (row + (wide - pad) + j) 0 ≡ 255) →
-    ((x : ℕ) → from - before' ≤ x → x ≤ most →
+    ((x : ℕ) → from - before' ≤ x → x < high →
     row_at bytes' (row + wide) x ≡ joined (joined (row_at bytes row) (free_at old ws as' (2 * pair + 1))) (free_at old ws as' (2 * pair)) x) →
-    Filling old ws as' from most pad wide pair (row + wide) before' bytes'
-filling_next {old} {ws} {as'} {from} {most} {pad} {wide} {pair} {row} {before} {before'} {bytes} {bytes'} paired ready few less h is same blank made =
+    ((x : ℕ) → high ≤ x → x ≤ most → row_at bytes' (row + wide) x ≡ 255) → Filling old ws as' from most pad wide pair (row + wide) before' bytes'
+filling_next {old} {ws} {as'} {from} {most} {pad} {wide} {pair} {row} {before} {before'} {high} {bytes} {bytes'} paired ready few less h is past same blank made never =
     record { at = place; earlier = earlier; rows = record { row = λ i low high. at i high (cases_lt pair i) low; blank = λ i j low high short. front i j high short (cases_lt pair i) low } }
   where
     two : 2 * (pair + 1) ≡ 2 * pair + 1 + 1
@@ -181,7 +181,14 @@ filling_next {old} {ws} {as'} {from} {most} {pad} {wide} {pair} {row} {before} {
     joined' = row_next old ws as' (2 * pair) paired from ready (row_next old ws as' (2 * pair + 1) paired from ready older)
 
     newest : Row old (drop (2 * pair) ws) (drop (2 * pair) as') (from - free_before old ws as' (2 * pair)) most (row_at bytes' (row + wide))
-    newest = row_same joined' (λ x low high. made x (rw (sym earlier) at low) high)
+    newest = record { least = λ x low top. either x low top (cases_lt x high) }
+      where
+        either :
+            (x : ℕ) → from - free_before old ws as' (2 * pair) ≤ x → x ≤ most → (x < high) ⊎ (high ≤ x) →
+            Least old (drop (2 * pair) ws) (drop (2 * pair) as') x (row_at bytes' (row + wide) x)
+        either x low top (inl below) = rw (made x (rw (sym earlier) at low) below) (joined'.least x low top)
+        either x low top (inr heavy) =
+            rw (never x heavy top) (least_heavy (rw (length-drop (2 * pair) ws, length-drop (2 * pair) as', paired) refl) (omega (arith, earlier, past x heavy top, free_drop_le old (2 * pair) ws as')))
 
     at :
         (i : ℕ) → i ≤ pairs_of (length ws) → (pair < i) ⊎ (i ≤ pair) → pair ≤ i →
@@ -211,17 +218,24 @@ filling_before {old} {ws} {as'} {pair = pair} paired some h =
 
 -- the same step as the code takes it
 pub filling_more :
-    {old : ℕ} {ws as' : List ℕ} {from most pad wide pair row before low a b : ℕ} {bytes bytes' : List ℕ} → length as' ≡ length ws →
+    {old : ℕ} {ws as' : List ℕ} {from most pad wide pair row before low high a b : ℕ} {bytes bytes' : List ℕ} → length as' ≡ length ws →
     none_due_empty old ws as' ≡ true → 0 < pair → pair ≤ pairs_of (length ws) → pad + most < wide → Filling old ws as' from most pad wide pair row before bytes →
     a ≡ free_at old ws as' (2 * (pair - 1)) → b ≡ free_at old ws as' (2 * (pair - 1) + 1) → low ≤ from - (before - (a + b)) →
+    ((x : ℕ) → high ≤ x → x ≤ most → free_weight old ws as' < before - (a + b) + x) →
     ((j : ℕ) → j < row + (wide - pad) → get_or bytes' j 0 ≡ get_or bytes j 0) → ((j : ℕ) → j < pad → get_or bytes' (row + (wide - pad) + j) 0 ≡ 255) →
-    ((x : ℕ) → low ≤ x → x ≤ most → row_at bytes' (row + wide) x ≡ joined (joined (row_at bytes row) b) a x) → Filling old ws as' from most pad wide (pair - 1) (row + wide) (before - (a + b)) bytes'
-filling_more {old} {ws} {as'} {from} {most} {pad} {wide} {pair} {row} {before} {low} {a} {b} {bytes} {bytes'} paired ready some few less h first second start same blank made =
-    filling_next paired ready (omega arith) less here (omega (arith, first, second, filling_before paired some h)) same blank
-    (λ x enough below. rw (sym first, sym second) (made x (omega arith) below))
+    ((x : ℕ) → low ≤ x → x < high → row_at bytes' (row + wide) x ≡ joined (joined (row_at bytes row) b) a x) →
+    ((x : ℕ) → high ≤ x → x ≤ most → row_at bytes' (row + wide) x ≡ 255) → Filling old ws as' from most pad wide (pair - 1) (row + wide) (before - (a + b)) bytes'
+filling_more {old} {ws} {as'} {from} {most} {pad} {wide} {pair} {row} {before} {low} {high} {a} {b} {bytes} {bytes'} paired ready some few less h first second start past same blank made never =
+    filling_next paired ready (omega arith) less here (omega (arith, first, second, filling_before paired some h)) past same blank
+    (λ x enough below. rw (sym first, sym second) (made x (omega arith) below)) never
   where
     here : Filling old ws as' from most pad wide (pair - 1 + 1) row before bytes
     here = let e : pair - 1 + 1 ≡ pair = omega arith in rw e h
+
+pub filling_free :
+    {old : ℕ} {ws as' : List ℕ} {from most pad wide pair row before : ℕ} {bytes : List ℕ} →
+    Filling old ws as' from most pad wide pair row before bytes → before ≤ free_weight old ws as'
+filling_free {old} {ws} {as'} h = omega (arith, h.earlier)
 
 pub filling_blank :
     {old : ℕ} {ws as' : List ℕ} {from most pad wide pair row before : ℕ} {bytes : List ℕ} → Filling old ws as' from most pad wide pair row before bytes →

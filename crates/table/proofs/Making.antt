@@ -137,6 +137,11 @@ least_cap {k = k} h =
       some = λ below. let s = h.some (omega arith) in (s.0, s.1, omega (arith, s.2));
     }
 
+-- no choice weighs more than all free pans do
+pub least_heavy : {old : ℕ} {ws as' : List ℕ} {x : ℕ} → length as' ≡ length ws → free_weight old ws as' < x → Least old ws as' x 255
+least_heavy {old} {ws} {as'} paired heavy =
+    record { low = λ cs m. absurd (omega (arith, m.weighs, weight_le old ws as' cs paired)); some = λ below. absurd (omega arith) }
+
 -- there is one least count, if any
 pub least_one : {old : ℕ} {ws as' : List ℕ} {x k m : ℕ} → Least old ws as' x k → Least old ws as' x m → m < 255 → k ≤ m
 least_one h h' below = let s = h'.some below in omega (arith, s.2, h.low s.0 s.1)

@@ -30,7 +30,7 @@ fn put(room: &mut [u8], at: usize, block: [u8; BLOCK])
 }
 
 // The block at a place.
-fn get(room: &[u8], at: usize) -> [u8; BLOCK]
+pub fn get(room: &[u8], at: usize) -> [u8; BLOCK]
     requires { at + 64 ≤ length room.now }
     ensures { (x : ℕ) → x < 64 → slice_index result x ≡ slice_index room.now (at + x) }
 {
@@ -41,15 +41,16 @@ fn get(room: &[u8], at: usize) -> [u8; BLOCK]
     block
 }
 
-// Copies so many blocks to a place behind them. Block by block, which takes less time than the call that copies or fills a slice.
-pub fn copy_blocks(room: &mut [u8], from: usize, to: usize, blocks: usize)
-    requires { (from + 64 * blocks ≤ to) × (to + 64 * blocks ≤ length room.old) }
-    ensures same { (j : ℕ) → j < to → slice_index room.new j ≡ slice_index room.old j }
-    ensures made { (x : ℕ) → x < 64 * blocks → slice_index room.new (to + x) ≡ slice_index room.old (from + x) }
+// Writes a block of 255 so many times, where no weight is or none can be made. The block is handed in, since a loop that writes what is
+// known to be 255 everywhere is compiled to a call, which takes longer than the few blocks do.
+pub fn blank(room: &mut [u8], never: [u8; BLOCK], from: usize, blocks: usize)
+    requires never { (x : ℕ) → x < 64 → slice_index never x ≡ 255 }
+    requires room { from + 64 * blocks ≤ length room.old }
+    ensures same { (j : ℕ) → j < from → slice_index room.new j ≡ slice_index room.old j }
+    ensures blank { (x : ℕ) → x < 64 * blocks → slice_index room.new (from + x) ≡ 255 }
 {
     for block in 0..blocks {
-        let made = get(room, from + BLOCK * block);
-        put(room, to + BLOCK * block, made);
+        put(room, from + BLOCK * block, never);
     }
 }
 

@@ -4,7 +4,7 @@ ghost use Rattle.table.specs.Pans.{none_due_empty, pairs_of};
 ghost use Rattle.table.specs.Rows.{Reaches, Rows, joined, row_at};
 ghost use Rattle.table.specs.Surveyed.{Surveyed};
 
-use crate::blocks::{BLOCK, add_block, copy_blocks};
+use crate::blocks::{BLOCK, add_block, blank, get};
 use crate::pans::{free_at, pairs};
 use crate::shape::Shape;
 use crate::survey::Survey;
@@ -20,22 +20,35 @@ fn start_row(row: &mut [u8], pad: usize)
     row[pad] = 0;
 }
 
-// The row with two pans more, behind the row without them, from the block of a weight on.
-fn add_pair(room: &mut [u8], row: usize, shape: Shape, low: usize, first: usize, second: usize)
+// The row with two pans more, behind the row without them: made from one block on, and from another one on 255, since all its
+// pans together weigh less.
+fn add_pair(
+    room: &mut [u8],
+    row: usize,
+    shape: Shape,
+    low: usize,
+    high: usize,
+    first: usize,
+    second: usize,
+)
     requires room { (shape.pad ≤ row) × (row + 64 * shape.blocks + (shape.pad + 64 * shape.blocks) ≤ length room.old) }
+    requires within { high ≤ shape.blocks }
     requires small { (first ≤ 1000000) × (second ≤ 1000000) }
     requires reach { shape.pad < first + second → 64 * shape.blocks ≤ shape.pad }
     requires blank { (j : ℕ) → j < shape.pad → slice_index room.old (row - shape.pad + j) ≡ 255 }
     ensures same { (j : ℕ) → j < row + 64 * shape.blocks → slice_index room.new j ≡ slice_index room.old j }
     ensures blank { (j : ℕ) → j < shape.pad → slice_index room.new (row + 64 * shape.blocks + j) ≡ 255 }
-    ensures made { (x : ℕ) → 64 * low ≤ x → x < 64 * shape.blocks → row_at room.new (row + (shape.pad + 64 * shape.blocks)) x ≡ joined (joined (row_at room.old row) second) first x }
+    ensures made { (x : ℕ) → 64 * low ≤ x → x < 64 * high → row_at room.new (row + (shape.pad + 64 * shape.blocks)) x ≡ joined (joined (row_at room.old row) second) first x }
+    ensures never { (x : ℕ) → 64 * high ≤ x → x < 64 * shape.blocks → row_at room.new (row + (shape.pad + 64 * shape.blocks)) x ≡ 255 }
 {
     let pad = shape.pad;
     let next = row + shape.wide();
-    copy_blocks(room, row - pad, next - pad, pad / BLOCK);
-    for block in low..shape.blocks {
+    let never = get(room, row - pad);
+    blank(room, never, next - pad, pad / BLOCK);
+    for block in low..high {
         add_block(room, row, next, pad, BLOCK * block, first, second);
     }
+    blank(room, never, next + BLOCK * high, shape.blocks - high);
 }
 
 // Every row, from that of no pan to that of all pans, for the weights that matter: what the pans before can't make up for.
@@ -47,15 +60,17 @@ pub fn fill(ring: Ring, seen: Survey, from: usize, shape: Shape, room: &mut [u8]
     ensures { Rows ring.entry.rule.age ring.entry.weights.now ring.entry.ages.now from (64 * shape.blocks - 1) shape.pad (shape.pad + 64 * shape.blocks) 0 room.new }
 {
     let wide = shape.wide();
+    let free = seen.free as usize;
     start_row(&mut room[..wide], shape.pad);
     let mut row = shape.pad;
-    let mut before = seen.free as usize;
+    let mut before = free;
     for pair in (0..pairs(ring)).rev() {
         let first = free_at(ring, 2 * pair);
         let second = free_at(ring, 2 * pair + 1);
         before -= first + second;
         let low = from.saturating_sub(before) / BLOCK;
-        add_pair(room, row, shape, low, first, second);
+        let high = shape.blocks.min((free - before) / BLOCK + 1);
+        add_pair(room, row, shape, low, high, first, second);
         row += wide;
     }
 }

@@ -10,6 +10,7 @@ pub struct Shape {
     pub pad: usize,
     pub blocks: usize,
     ghost whole: { pad ≡ 64 * (pad / 64) },
+    ghost long: { 64 ≤ pad },
     ghost short: { pad ≤ 64 * blocks },
     ghost some: { 1 ≤ blocks },
     ghost small: { blocks ≤ 40000 },

@@ -2,7 +2,7 @@
 use Rattle.std.proofs.Common.{◌≡◌, ◌-◌, ◌*◌, ◌<◌, length, sym, ◌∙◌, mul-one, mul-add, arith}
 use Rattle.std.proofs.lemmas.List.{length-take-le, get_or_append_left}
 use Rattle.table.specs.Pans.{pairs_of}
-use Rattle.table.proofs.Filling.{filling_none, filling_more, filling_before, filling_room, filling_blank}
+use Rattle.table.proofs.Filling.{filling_none, filling_more, filling_before, filling_free, filling_room, filling_blank}
 use Rattle.table.proofs.rows.fill.Goals as goal
 
 pub start_row-requires : goal.start_row-requires
@@ -42,4 +42,5 @@ loop-pair-preserved c =
     let inside : c.wide-wide.result - c.args.shape.pad ≡ 64 * c.args.shape.blocks = omega (arith, c.wide-wide.ensures) in
     filling_more c.args.ring.paired c.requires.ready c.loop-pair-test.true few (omega (arith, c.wide-wide.ensures, c.args.shape.some))
     c.loop-pair.invariant c.free_at-first.ensures c.free_at-second.ensures (omega (arith, c.saturating_sub-low.ensures))
-    (λ j less. h.same j (omega (arith, c.wide-wide.ensures))) (λ j less. rw inside (h.blank j less)) (λ x low below. rw c.wide-wide.ensures (h.made x low (omega arith)))
+    (λ x high low. omega (arith, c.min-high.ensures, filling_free c.loop-pair.invariant, c.requires.seen.free))
+    (λ j less. h.same j (omega (arith, c.wide-wide.ensures))) (λ j less. rw inside (h.blank j less)) (λ x low below. rw c.wide-wide.ensures (h.made x low below)) (λ x high low. rw c.wide-wide.ensures (h.never x high (omega arith)))
