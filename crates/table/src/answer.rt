@@ -5,6 +5,7 @@ ghost use Rattle.order.specs.Order.{Found};
 ghost use Rattle.table.specs.Pans.{table_bytes};
 
 use crate::look::survey;
+use crate::pans::free_of;
 use crate::read::Table;
 use crate::rows::fill;
 use crate::shape::Shape;
@@ -25,7 +26,8 @@ pub fn best(ring: Ring, room: &mut [u8]) -> Option<Bag>
     let span = seen.span(rule);
     let from = rule.target.saturating_sub(seen.due) as usize;
     let shape = Shape::of(span, seen.heaviest as usize);
-    fill(ring, seen, from, shape, room);
+    let free = free_of(ring);
+    fill(ring, seen, &free, from, shape, room);
     let table = Table {
         ring,
         span,
@@ -35,7 +37,7 @@ pub fn best(ring: Ring, room: &mut [u8]) -> Option<Bag>
     let limit = (rule.pans - seen.held).min(254) as u8;
     let x = table.lightest(from, limit)?;
     Some(Bag {
-        pans: table.read(x),
+        pans: table.read(&free, x),
         weight: seen.due + x as u32,
     })
 }

@@ -1,11 +1,11 @@
 // The rows of the table: for each weight the least number of free pans that weigh so much.
 ghost use Rattle.std.specs.Prelude.{◌≡◌, ℕ, ◌+◌, ◌-◌, ◌*◌, ◌<◌, ◌≤◌, true, ◌≢◌, length, slice_index};
-ghost use Rattle.table.specs.Pans.{none_due_empty, pairs_of};
+ghost use Rattle.table.specs.Pans.{free_at, none_due_empty, pairs_of};
 ghost use Rattle.table.specs.Rows.{Reaches, Rows, joined, row_at};
 ghost use Rattle.table.specs.Surveyed.{Surveyed};
 
 use crate::blocks::{BLOCK, add_block, blank, get};
-use crate::pans::{free_at, pairs};
+use crate::pans::pairs;
 use crate::shape::Shape;
 use crate::survey::Survey;
 use choices::Ring;
@@ -52,7 +52,8 @@ fn add_pair(
 }
 
 // Every row, from that of no pan to that of all pans, for the weights that matter: what the pans before can't make up for.
-pub fn fill(ring: Ring, seen: Survey, from: usize, shape: Shape, room: &mut [u8])
+pub fn fill(ring: Ring, seen: Survey, free: &[u32; 24], from: usize, shape: Shape, room: &mut [u8])
+    requires free { (i : ℕ) → i < 24 → slice_index free.now i ≡ free_at ring.rule.age ring.weights.now ring.ages.now i }
     requires seen { Surveyed ring.rule.age ring.weights.now ring.ages.now seen }
     requires ready { none_due_empty ring.rule.age ring.weights.now ring.ages.now ≡ true }
     requires reach { Reaches ring.rule.age ring.weights.now ring.ages.now shape.pad (64 * shape.blocks) }
@@ -60,16 +61,16 @@ pub fn fill(ring: Ring, seen: Survey, from: usize, shape: Shape, room: &mut [u8]
     ensures { Rows ring.entry.rule.age ring.entry.weights.now ring.entry.ages.now from (64 * shape.blocks - 1) shape.pad (shape.pad + 64 * shape.blocks) 0 room.new }
 {
     let wide = shape.wide();
-    let free = seen.free as usize;
+    let all = seen.free as usize;
     start_row(&mut room[..wide], shape.pad);
     let mut row = shape.pad;
-    let mut before = free;
+    let mut before = all;
     for pair in (0..pairs(ring)).rev() {
-        let first = free_at(ring, 2 * pair);
-        let second = free_at(ring, 2 * pair + 1);
+        let first = free[2 * pair] as usize;
+        let second = free[2 * pair + 1] as usize;
         before -= first + second;
         let low = from.saturating_sub(before) / BLOCK;
-        let high = shape.blocks.min((free - before) / BLOCK + 1);
+        let high = shape.blocks.min((all - before) / BLOCK + 1);
         add_pair(room, row, shape, low, high, first, second);
         row += wide;
     }

@@ -24,7 +24,7 @@ impl Survey {
         ready: true,
     };
 
-    // The survey with one pan more.
+    // The survey with one pan more. Without a branch, so that a loop over pans can take several at once.
     pub fn with(self, weight: u32, may_wait: bool) -> Survey
         requires { (self.due + weight < 2 ^ 32) × ((self.free + weight < 2 ^ 32) × (self.held + 1 < 2 ^ 32)) }
         ensures due { result.due ≡ self.due + cond may_wait 0 weight }
@@ -33,19 +33,13 @@ impl Survey {
         ensures heavy { result.heaviest ≡ max (cond may_wait weight 0) self.heaviest }
         ensures ready { result.ready ≡ (self.ready && (may_wait || nat_le 1 weight)) }
     {
-        if may_wait {
-            Survey {
-                free: self.free + weight,
-                heaviest: weight.max(self.heaviest),
-                ..self
-            }
-        } else {
-            Survey {
-                due: self.due + weight,
-                held: self.held + 1,
-                ready: self.ready && weight >= 1,
-                ..self
-            }
+        let free = if may_wait { weight } else { 0 };
+        Survey {
+            due: self.due + (weight - free),
+            held: self.held + u32::from(!may_wait),
+            free: self.free + free,
+            heaviest: free.max(self.heaviest),
+            ready: self.ready & (may_wait | (weight >= 1)),
         }
     }
 

@@ -1,9 +1,11 @@
 -- What is left of the proof of the look over the pans.
+use Rattle.std.proofs.Common.{◌+◌, length, get_or, drop, arith}
+use Rattle.std.proofs.lemmas.List.{drop_more}
 use Rattle.table.proofs.Surveying.{surveying_next}
 use Rattle.table.proofs.look.survey.Goals as goal
 
-pub loop-w-preserved : goal.loop-w-preserved
-loop-w-preserved c =
-    let h = c.in-Some.ensures.steps in
+pub loop-pan-preserved : goal.loop-pan-preserved
+loop-pan-preserved c =
     let e = c.with-seen.ensures in
-    ((tt, tt), tt, surveying_next c.loop-w.invariant.2 h.0 h.1 e.due e.held e.free e.heavy e.ready)
+    surveying_next c.loop-pan.invariant (drop_more c.args.ring.weights.now c.loop-pan.pan 0 c.loop-pan-test.true)
+    (drop_more c.args.ring.ages.now c.loop-pan.pan 0 (omega (arith, c.args.ring.paired, c.loop-pan-test.true))) e.due e.held e.free e.heavy e.ready

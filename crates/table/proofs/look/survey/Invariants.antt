@@ -1,10 +1,8 @@
 -- What the look over the pans keeps from turn to turn.
-use Rattle.std.specs.Slice.Iter.{iter_rest}
-use Rattle.std.specs.Iterator.Adapters.{zip_first, zip_second}
+use Rattle.std.proofs.Common.{drop}
 use Rattle.table.proofs.Surveying.{Surveying}
 use Rattle.table.proofs.look.survey.Given as goal
 
-abbrev pub invariant-loop-w : goal.invariant-loop-w
-invariant-loop-w l =
-    (goal.iterator-loop-w).can_next l.w-iterator × (goal.iterator-loop-w).is_finite l.w-iterator
-    × Surveying l.ring.rule.age l.ring.weights.now l.ring.ages.now (iter_rest (zip_first l.w-iterator)) (iter_rest (zip_second l.w-iterator)) l.seen
+abbrev pub invariant-loop-pan : goal.invariant-loop-pan
+invariant-loop-pan l =
+    Surveying l.ring.rule.age l.ring.weights.now l.ring.ages.now (drop l.pan l.ring.weights.now) (drop l.pan l.ring.ages.now) l.seen

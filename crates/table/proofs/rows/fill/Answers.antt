@@ -1,5 +1,5 @@
 -- What is left of the proof that all rows are filled.
-use Rattle.std.proofs.Common.{◌≡◌, ◌-◌, ◌*◌, ◌<◌, length, sym, ◌∙◌, mul-one, mul-add, arith}
+use Rattle.std.proofs.Common.{◌+◌, ◌-◌, ◌*◌, ◌≤◌, get_or, ◌≡◌, ◌<◌, length, sym, ◌∙◌, mul-one, mul-add, arith}
 use Rattle.std.proofs.lemmas.List.{length-take-le, get_or_append_left}
 use Rattle.table.specs.Pans.{pairs_of}
 use Rattle.table.proofs.Filling.{filling_none, filling_more, filling_before, filling_free, filling_room, filling_blank}
@@ -12,7 +12,10 @@ start_row-requires c =
 
 pub overflow_sub-before : goal.overflow_sub-before
 overflow_sub-before c =
-    omega (arith, c.free_at-first.ensures, c.free_at-second.ensures, filling_before c.args.ring.paired c.loop-pair-test.true c.loop-pair.invariant)
+    let few = rw c.pairs-pair.ensures at c.loop-pair.auto.pair in
+    let first = c.requires.free (2 * (c.loop-pair.pair - 1)) (omega (arith, few, c.args.ring.few, c.loop-pair-test.true)) in
+    let second = c.requires.free (2 * (c.loop-pair.pair - 1) + 1) (omega (arith, few, c.args.ring.few, c.loop-pair-test.true)) in
+    omega (arith, first, second, filling_before c.args.ring.paired c.loop-pair-test.true c.loop-pair.invariant)
 
 pub loop-pair-init : goal.loop-pair-init
 loop-pair-init c =
@@ -41,6 +44,6 @@ loop-pair-preserved c =
     let few = rw c.pairs-pair.ensures at c.loop-pair.auto.pair in
     let inside : c.wide-wide.result - c.args.shape.pad ≡ 64 * c.args.shape.blocks = omega (arith, c.wide-wide.ensures) in
     filling_more c.args.ring.paired c.requires.ready c.loop-pair-test.true few (omega (arith, c.wide-wide.ensures, c.args.shape.some))
-    c.loop-pair.invariant c.free_at-first.ensures c.free_at-second.ensures (omega (arith, c.saturating_sub-low.ensures))
+    c.loop-pair.invariant (c.requires.free _ (omega (arith, few, c.args.ring.few, c.loop-pair-test.true))) (c.requires.free _ (omega (arith, few, c.args.ring.few, c.loop-pair-test.true))) (omega (arith, c.saturating_sub-low.ensures))
     (λ x high low. omega (arith, c.min-high.ensures, filling_free c.loop-pair.invariant, c.requires.seen.free))
     (λ j less. h.same j (omega (arith, c.wide-wide.ensures))) (λ j less. rw inside (h.blank j less)) (λ x low below. rw c.wide-wide.ensures (h.made x low below)) (λ x high low. rw c.wide-wide.ensures (h.never x high (omega arith)))

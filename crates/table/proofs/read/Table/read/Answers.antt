@@ -1,5 +1,5 @@
 -- What is left of the proof that the first choice is read.
-use Rattle.std.proofs.Common.{◌≡◌, ◌+◌, ◌-◌, ◌*◌, ◌<◌, length, arith}
+use Rattle.std.proofs.Common.{◌+◌, ◌-◌, ◌*◌, ◌≤◌, get_or, ◌≡◌, ◌<◌, length, arith}
 use Rattle.std.proofs.Math.Pow.{pow_mono}
 use Rattle.table.specs.Pans.{pairs_of}
 use Rattle.table.proofs.Filling.{row_below, rows_all}
@@ -23,9 +23,11 @@ opens-opens-requires-clause-blank c =
 pub overflow_sub-left : goal.overflow_sub-left
 overflow_sub-left c =
     let few = rw c.pairs-pair-end.ensures at c.loop-pair-test.true in
+    let one = c.requires.free (2 * c.loop-pair.pair) (omega (arith, few, c.args.self.ring.few)) in
+    let other = c.requires.free (2 * c.loop-pair.pair + 1) (omega (arith, few, c.args.self.ring.few)) in
     let below = row_below _ _ _ _ _ few c.loop-pair.invariant.1 in
     rw (c.taken.ensures, c.taken-in-loop-pair.ensures)
-    (reading_left c.args.self.ring.paired c.args.self.ready c.requires.rows few below.1 c.free_at-first.result c.free_at-second.result c.loop-pair.invariant.0
+    (reading_left c.args.self.ring.paired c.args.self.ready c.requires.rows few below.1 (get_or c.args.free.now (2 * c.loop-pair.pair) 0) (get_or c.args.free.now (2 * c.loop-pair.pair + 1) 0) c.loop-pair.invariant.0
     c.opens-opens.ensures.first c.opens-opens.ensures.second)
 
 pub overflow_sub-row : goal.overflow_sub-row
@@ -36,24 +38,28 @@ overflow_sub-row c =
 pub overflow_add-pans-in-loop-pair : goal.overflow_add-pans-in-loop-pair
 overflow_add-pans-in-loop-pair c =
     let few = rw c.pairs-pair-end.ensures at c.loop-pair-test.true in
+    let one = c.requires.free (2 * c.loop-pair.pair) (omega (arith, few, c.args.self.ring.few)) in
+    let other = c.requires.free (2 * c.loop-pair.pair + 1) (omega (arith, few, c.args.self.ring.few)) in
     let below = row_below _ _ _ _ _ few c.loop-pair.invariant.1 in
     let h =
     reading_two c.args.self.ring.paired c.args.self.ready c.requires.rows few below.1 (c.loop-pair.left - (c.taken.result + c.taken-in-loop-pair.result))
     (c.loop-pair.pans + c.mark-pans.result) (c.loop-pair.pans + c.mark-pans.result + c.mark-pans-in-loop-pair.result) c.loop-pair.invariant.0
-    (rw (c.free_at-first.ensures, c.free_at-second.ensures) at c.opens-opens.ensures.first) (rw (c.free_at-first.ensures, c.free_at-second.ensures) at c.opens-opens.ensures.second)
-    (omega (arith, rw c.free_at-first.ensures at c.taken.ensures, rw c.free_at-second.ensures at c.taken-in-loop-pair.ensures))
+    (rw (one, other) at c.opens-opens.ensures.first) (rw (one, other) at c.opens-opens.ensures.second)
+    (omega (arith, rw one at c.taken.ensures, rw other at c.taken-in-loop-pair.ensures))
     (omega (arith, rw c.due_at.ensures at c.mark-pans.ensures)) (omega (arith, rw c.due_at-in-loop-pair.ensures at c.mark-pans-in-loop-pair.ensures)) in
     omega (arith, h.small, pow_mono {i = 2 * (c.loop-pair.pair + 1)} {j = 24} (omega (arith, few, c.args.self.ring.few)))
 
 pub loop-pair-preserved : goal.loop-pair-preserved
 loop-pair-preserved c =
     let few = rw c.pairs-pair-end.ensures at c.loop-pair-test.true in
+    let one = c.requires.free (2 * c.loop-pair.pair) (omega (arith, few, c.args.self.ring.few)) in
+    let other = c.requires.free (2 * c.loop-pair.pair + 1) (omega (arith, few, c.args.self.ring.few)) in
     let below = row_below _ _ _ _ _ few c.loop-pair.invariant.1 in
     rw (c.wide-row.ensures) (
       reading_two c.args.self.ring.paired c.args.self.ready c.requires.rows few below.1 (c.loop-pair.left - (c.taken.result + c.taken-in-loop-pair.result))
           (c.loop-pair.pans + c.mark-pans.result) (c.loop-pair.pans + c.mark-pans.result + c.mark-pans-in-loop-pair.result) c.loop-pair.invariant.0
-          (rw (c.free_at-first.ensures, c.free_at-second.ensures) at c.opens-opens.ensures.first) (rw (c.free_at-first.ensures, c.free_at-second.ensures) at c.opens-opens.ensures.second)
-          (omega (arith, rw c.free_at-first.ensures at c.taken.ensures, rw c.free_at-second.ensures at c.taken-in-loop-pair.ensures))
+          (rw (one, other) at c.opens-opens.ensures.first) (rw (one, other) at c.opens-opens.ensures.second)
+          (omega (arith, rw one at c.taken.ensures, rw other at c.taken-in-loop-pair.ensures))
           (omega (arith, rw c.due_at.ensures at c.mark-pans.ensures)) (omega (arith, rw c.due_at-in-loop-pair.ensures at c.mark-pans-in-loop-pair.ensures)),
       below.1,
     )
