@@ -1,5 +1,5 @@
 // The pans of a ring that may be opened and may stay shut.
-ghost use Rattle.std.specs.Prelude.{◌≡◌, ℕ, ◌<◌, ◌≤◌, length, slice_index};
+ghost use Rattle.std.specs.Prelude.{◌≡◌, ℕ, ◌<◌, ◌≤◌, ◌⊎◌, length, slice_index};
 ghost use Rattle.exact.specs.Pans.{free_of, loose};
 
 use choices::Ring;
@@ -28,9 +28,10 @@ pub fn free_weights(ring: Ring, free: &mut [u32])
     }
 }
 
-// The heaviest of those that are not too heavy.
+// The heaviest of those that are not too heavy; 0 where there is none.
 pub fn heaviest(free: &[u32], most: u32) -> u32
     ensures within { result ≤ most }
+    ensures some { (result ≡ 0) ⊎ ((i : ℕ) × (i < length free.now) × (slice_index free.now i ≡ result)) }
     ensures heaviest { (i : ℕ) → i < length free.now → slice_index free.now i ≤ most → slice_index free.now i ≤ result }
 {
     let mut found = 0;

@@ -10,7 +10,8 @@ pub fn one(free: &[u32], weight: u32) -> Option<u32>
     Some(1 << pan)
 }
 
-// The first pan that some pans behind it, as many as the table is for, bring to the weight. A pan that is too heavy leads to the first byte.
+// The first pan that some pans behind it, as many as the table is for, bring to the weight. A pan that is too heavy leads to
+// the first byte, at which nothing is told, so that no weight is tested.
 fn lead(free: &[u32], table: &[u8], weight: u32) -> Option<usize>
     ghost pans: { ℕ }
     requires room { weight + 1 < length table.now }
@@ -30,6 +31,7 @@ fn joined(pan: usize, behind: u32) -> u32
     (2 * behind + 1) << pan
 }
 
+// By the table of single pans.
 pub fn two(free: &[u32], ones: &[u8], weight: u32) -> Option<u32>
     requires few { length free.now ≤ 24 }
     requires room { weight + 1 < length ones.now }
@@ -41,6 +43,7 @@ pub fn two(free: &[u32], ones: &[u8], weight: u32) -> Option<u32>
     Some(joined(pan, rest))
 }
 
+// By the table of two pans.
 pub fn three(free: &[u32], ones: &[u8], pairs: &[u8], weight: u32) -> Option<u32>
     requires few { length free.now ≤ 24 }
     requires room { (weight + 1 < length ones.now) × (weight + 1 < length pairs.now) }
@@ -53,6 +56,7 @@ pub fn three(free: &[u32], ones: &[u8], pairs: &[u8], weight: u32) -> Option<u32
     Some(joined(pan, rest))
 }
 
+// A table of three pans would take longer to fill than this takes.
 pub fn four(free: &[u32], ones: &[u8], pairs: &[u8], weight: u32) -> Option<u32>
     requires few { length free.now ≤ 24 }
     requires room { (weight + 1 < length ones.now) × (weight + 1 < length pairs.now) }
