@@ -14,10 +14,6 @@ length_free old [] as' e = refl
 length_free old (w ∷ ws) [] e = absurd (omega arith)
 length_free old (w ∷ ws) (a ∷ as') e = ap suc (length_free old ws as' (omega arith))
 
-pub length_due : (old : ℕ) (as' : List ℕ) → length (due_of old as') ≡ length as'
-length_due old [] = refl
-length_due old (a ∷ as') = ap suc (length_due old as')
-
 pub free_at :
     (old : ℕ) (ws as' : List ℕ) (i : ℕ) → length as' ≡ length ws → i < length ws →
     get_or (free_of old ws as') i 0 ≡ loose (ltb (get_or as' i 0) old) (get_or ws i 0)

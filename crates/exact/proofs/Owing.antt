@@ -1,12 +1,11 @@
 -- One look over the pans for those that have to be opened, pan by pan: what is seen so far and what is left make up the whole.
-use Rattle.std.proofs.Common.{◌≡◌, ℕ, suc, ◌+◌, ◌*◌, ◌^◌, ◌<◌, ◌≤◌, Bool, true, false, ◌&&◌, leb, List, [], ◌∷◌, length, get_or, sym, ◌∙◌, add-one, mul-add, mul-one, mul_assoc, mul_comm, arith}
-use mathlib.Core.Bool.{and-true, and_assoc}
+use Rattle.std.proofs.Common.{◌≡◌, ℕ, suc, ◌+◌, ◌*◌, ◌^◌, ◌<◌, ◌≤◌, Bool, true, false, ◌&&◌, leb, List, ◌∷◌, length, get_or, add-one, mul-add, mul-one, mul_assoc, mul_comm, arith}
+use mathlib.Core.Bool.{and_assoc}
 use native.Mathlib.Nat.{pow-succ'}
 use Rattle.std.proofs.lemmas.Bool.{le-ltb, lt-ltb}
 use Rattle.choices.specs.Choice.{bit, weight_of, opened, none_empty}
 use Rattle.choices.specs.Numbered.{number_of}
 use Rattle.exact.specs.Pans.{due_of}
-use Rattle.exact.specs.Owed.{Owed}
 use Rattle.exact.specs.declared.due.Due.{Due}
 
 -- the pans before i are seen, those in us and vs are left
@@ -86,12 +85,3 @@ module _
           numbers = omega (arith, numbers, number_more i d.number (number_of (due_of old vs)) false);
           fills = fills;
         })
-
--- no pan is left
-pub owing_all : {old : ℕ} {ws as' us vs : List ℕ} {i : ℕ} {d : Due} → Owing old ws as' us vs i d → length us ≡ 0 → Owed old ws as' d
-owing_all {old} {ws} {as'} {i = i} {d} h e = ends _ _ h e
-  where
-    ends : (us vs : List ℕ) → Owing old ws as' us vs i d → length us ≡ 0 → Owed old ws as' d
-    ends [] [] h e = record { weighs = omega (arith, h.weighs); counts = omega (arith, h.counts); numbers = omega (arith, h.numbers); fills = sym (and-true d.filled) ∙ h.fills }
-    ends [] (a ∷ vs) h e = absurd (omega (arith, h.paired))
-    ends (u ∷ us) vs h e = absurd (omega arith)

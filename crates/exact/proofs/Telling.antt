@@ -1,8 +1,8 @@
 -- Tables that are filled from the first pan to the last: what the bytes tell so far.
-use Rattle.std.proofs.Common.{◌≡◌, ℕ, suc, ◌+◌, ◌-◌, ◌<◌, ◌≤◌, ◌⊎◌, true, false, List, [], ◌∷◌, length, get_or, get_or-set_same, get_or-set_other, length-take, drop, take, set, min, ◌≢◌, ◌∙◌, inl, inr, arith}
+use Rattle.std.proofs.Common.{◌≡◌, ℕ, suc, ◌+◌, ◌-◌, ◌<◌, ◌≤◌, ◌⊎◌, List, length, get_or, get_or-set_same, get_or-set_other, length-take, drop, take, set, min, ◌≢◌, ◌∙◌, inl, inr, arith}
 use Rattle.std.proofs.lemmas.Bool.{cases_lt, cases_eq}
 use Rattle.std.proofs.lemmas.List.{get_or-take}
-use Rattle.choices.specs.Choice.{Choice, weight_of, opened}
+use Rattle.choices.specs.Choice.{Choice}
 use Rattle.exact.specs.Few.{Makes, Heads, Tells, Sums, Marked}
 use Rattle.exact.proofs.Leading.{headed, makes_headed, heads_drop, heads_undrop, heads_one, one_heads}
 
@@ -92,9 +92,6 @@ pub record Filling (k : ℕ) (ws : List ℕ) (i : ℕ) (bytes : List ℕ) : Type
   pub each : (j x : ℕ) → j < i → x + 1 < length bytes → Heads k ws x j → get_or bytes x 0 + j ≤ length ws
   pub some : (x : ℕ) → x + 1 < length bytes → (get_or bytes x 0 ≡ 255) ⊎ ((j : ℕ) × (j < i) × (get_or bytes x 0 + j ≡ length ws) × Heads k ws x j)
 
-pub filling_none : {k : ℕ} {ws bytes : List ℕ} → ((x : ℕ) → x < length bytes → get_or bytes x 0 ≡ 255) → Filling k ws 0 bytes
-filling_none all = record { each = λ j x less room h. absurd (omega arith); some = λ x room. inl (all x (omega arith)) }
-
 -- one pan more is gone over
 pub filling_more :
     {k i byte : ℕ} {ws bytes bytes' : List ℕ} → Filling k ws i bytes → length bytes' ≡ length bytes → byte + i ≡ length ws →
@@ -120,14 +117,6 @@ filling_more {k} {i} {byte} {ws} {bytes} {bytes'} f same is m = record { each = 
     some x room (inr set) old = inr (i, omega arith, omega (arith, set.0), set.1)
 
 -- ---- all pans are gone over
-
--- pans that are not empty weigh something
-some_weigh : (ws : List ℕ) (cs : Choice) → ((i : ℕ) → i < length ws → 1 ≤ get_or ws i 0) → length cs ≡ length ws → opened cs ≤ weight_of ws cs
-some_weigh [] [] some e = omega arith
-some_weigh [] (c ∷ cs) some e = absurd (omega arith)
-some_weigh (w ∷ ws) [] some e = omega arith
-some_weigh (w ∷ ws) (true ∷ cs) some e = omega (arith, some 0 (omega arith), some_weigh ws cs (λ i less. some (suc i) (omega arith)) (omega arith))
-some_weigh (w ∷ ws) (false ∷ cs) some e = omega (arith, some_weigh ws cs (λ i less. some (suc i) (omega arith)) (omega arith))
 
 pub filling_all :
     {k : ℕ} {ws bytes : List ℕ} → Filling k ws (length ws) bytes → length ws ≤ 24 → ((i : ℕ) → i < length ws → 1 ≤ get_or ws i 0) → 2 ≤ length bytes →

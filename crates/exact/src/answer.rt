@@ -8,8 +8,8 @@ use crate::free::{free_weights, heaviest};
 use choices::Ring;
 use order::Bag;
 
-// The best of all choices that fit the ring's rule, where one of them weighs just the target and opens at most four pans beside those
-// that have to be opened; none where no choice does, or the room is too short.
+// The best of all choices that fit the ring's rule, where one of them weighs just the target and opens at most four pans beside
+// those that have to be opened; none where no choice does, or where the room is too short for two tables up to the target.
 pub fn best(ring: Ring, room: &mut [u8]) -> Option<Bag>
     ensures { Answers ring.entry.rule ring.entry.weights.now ring.entry.ages.now (length room.old) result }
 {
