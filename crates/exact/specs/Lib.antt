@@ -1,0 +1,5 @@
+-- The definitions that contracts cite.
+pub mod Pans
+pub mod Few
+pub mod Owed
+pub mod Answers

@@ -1,0 +1,75 @@
+// Of the choices of one, two, three or four pans that weigh just so much, the one that opens the first pan that differs.
+ghost use Rattle.std.specs.Prelude.{◌≡◌, ℕ, ◌+◌, ◌*◌, ◌^◌, ◌<◌, ◌≤◌, length};
+ghost use Rattle.exact.specs.Few.{Leads, Picks, Tells};
+
+pub fn one(free: &[u32], weight: u32) -> Option<u32>
+    requires { length free.now ≤ 24 }
+    ensures { Picks 1 free.now weight result }
+{
+    let pan = free.iter().position(|w| *w == weight)?;
+    Some(1 << pan)
+}
+
+// The first pan that some pans behind it, as many as the table is for, bring to the weight. A pan that is too heavy leads to
+// the first byte, at which nothing is told, so that no weight is tested.
+fn lead(free: &[u32], table: &[u8], weight: u32) -> Option<usize>
+    ghost pans: { ℕ }
+    requires room { weight + 1 < length table.now }
+    requires table { Tells pans free.now table.now }
+    ensures { Leads pans free.now weight result }
+{
+    (0..free.len()).find(|pan| {
+        usize::from(table[weight.saturating_sub(free[*pan]) as usize]) < free.len() - *pan
+    })
+}
+
+// The number of a choice that opens a pan and then those of a choice of the pans behind it.
+fn joined(pan: usize, behind: u32) -> u32
+    requires { (pan < 24) × ((behind < 2 ^ 24) × ((2 * behind + 1) * 2 ^ pan < 2 ^ 32)) }
+    ensures { result ≡ (2 * behind + 1) * 2 ^ pan }
+{
+    (2 * behind + 1) << pan
+}
+
+// By the table of single pans.
+pub fn two(free: &[u32], ones: &[u8], weight: u32) -> Option<u32>
+    requires few { length free.now ≤ 24 }
+    requires room { weight + 1 < length ones.now }
+    requires ones { Tells 1 free.now ones.now }
+    ensures { Picks 2 free.now weight result }
+{
+    let pan = lead(free, ones, weight)?;
+    let rest = one(&free[pan + 1..], weight - free[pan])?;
+    Some(joined(pan, rest))
+}
+
+// By the table of two pans.
+pub fn three(free: &[u32], ones: &[u8], pairs: &[u8], weight: u32) -> Option<u32>
+    requires few { length free.now ≤ 24 }
+    requires room { (weight + 1 < length ones.now) × (weight + 1 < length pairs.now) }
+    requires ones { Tells 1 free.now ones.now }
+    requires pairs { Tells 2 free.now pairs.now }
+    ensures { Picks 3 free.now weight result }
+{
+    let pan = lead(free, pairs, weight)?;
+    let rest = two(&free[pan + 1..], ones, weight - free[pan])?;
+    Some(joined(pan, rest))
+}
+
+// A table of three pans would take longer to fill than this takes.
+pub fn four(free: &[u32], ones: &[u8], pairs: &[u8], weight: u32) -> Option<u32>
+    requires few { length free.now ≤ 24 }
+    requires room { (weight + 1 < length ones.now) × (weight + 1 < length pairs.now) }
+    requires ones { Tells 1 free.now ones.now }
+    requires pairs { Tells 2 free.now pairs.now }
+    ensures { Picks 4 free.now weight result }
+{
+    for (pan, w) in free.iter().enumerate() {
+        if *w <= weight {
+            if let Some(rest) = three(&free[pan + 1..], ones, pairs, weight - *w) {
+                return Some(joined(pan, rest));
+            }
+        }
+    }
+    None
+}
