@@ -1,5 +1,5 @@
 -- The choice that is read off the rows, pan by pan: what is read so far, with the first choice of what is left, is the first of all.
-use Rattle.std.proofs.Common.{◌≡◌, ℕ, ◌+◌, ◌-◌, ◌*◌, ◌^◌, ◌<◌, ◌≤◌, Bool, true, false, cond, ◌||◌, ltb, leb, ◌⊎◌, List, [], ◌∷◌, length, get_or, drop, sym, refl, ◌∙◌, inl, inr, mul_assoc, mul_comm, mul-one, mul-add, add-one, arith}
+use Rattle.std.proofs.Common.{◌≡◌, ℕ, ◌+◌, ◌-◌, ◌*◌, ◌^◌, ◌<◌, ◌≤◌, Bool, true, false, cond, ◌||◌, eqb, ltb, leb, ◌⊎◌, List, [], ◌∷◌, length, get_or, drop, sym, refl, ◌∙◌, inl, inr, mul_assoc, mul_comm, mul-one, mul-add, add-one, arith}
 use native.Mathlib.Nat.{pow-succ'}
 use Rattle.std.proofs.lemmas.List.{drop_all}
 use Rattle.std.proofs.lemmas.Bool.{cases_lt, and_parts, le-ltb, lt-ltb, ltb-true, ltb-false, leb-true, leb-false}
@@ -54,12 +54,17 @@ stepped old ws as' pan weight with left count pans o is rest number = at o is re
         kept true e rest n = due (ltb-false with count (sym is)) e (omega (arith, rest)) refl (omega (arith, n))
         kept false e rest n = stays (ltb-false with count (sym is)) e (omega (arith, rest)) refl (omega (arith, n))
 
+-- a mark is 1 where there is one
+pub marked : {n : ℕ} (d : Bool) → n ≡ bit d → eqb n 1 ≡ d
+marked true e = rw e refl
+marked false e = rw e refl
+
 -- the number with one pan more
 number_more : (i pans n : ℕ) (c : Bool) → pans + 2 ^ i * (bit c + 2 * n) ≡ (pans + bit c * 2 ^ i) + 2 ^ (i + 1) * n
 number_more i pans n true = rw (add-one i, pow-succ' 2 i) (omega (arith, mul-add (2 ^ i) 1 (2 * n), mul-one (2 ^ i), mul_assoc (2 ^ i) 2 n, mul_comm (2 ^ i) 2))
 number_more i pans n false = rw (add-one i, pow-succ' 2 i) (omega (arith, mul-add (2 ^ i) 0 (2 * n), mul_assoc (2 ^ i) 2 n, mul_comm (2 ^ i) 2))
 
-small_more : (i pans : ℕ) (c : Bool) → pans < 2 ^ i → pans + bit c * 2 ^ i < 2 ^ (i + 1)
+pub small_more : (i pans : ℕ) (c : Bool) → pans < 2 ^ i → pans + bit c * 2 ^ i < 2 ^ (i + 1)
 small_more i pans true h = rw (add-one i, pow-succ' 2 i) (omega arith)
 small_more i pans false h = rw (add-one i, pow-succ' 2 i) (omega arith)
 

@@ -1,28 +1,46 @@
 // The best bag of a ring, by its table.
-ghost use Rattle.std.specs.Prelude.{◌*◌, ◌≤◌, length};
+ghost use Rattle.std.specs.Prelude.{◌≡◌, ◌+◌, ◌*◌, ◌≤◌, ◌&&◌, true, length, nat_le};
 ghost use Rattle.choices.specs.Choice.{fits};
 ghost use Rattle.order.specs.Order.{Found};
 ghost use Rattle.table.specs.Pans.{table_bytes};
+ghost use Rattle.table.specs.Surveyed.{Surveyed};
 
 use crate::look::survey;
-use crate::pans::free_of;
+use crate::pans::{due_of, free_of};
 use crate::read::Table;
 use crate::rows::fill;
 use crate::shape::Shape;
+use crate::survey::Survey;
 use choices::Ring;
 use order::Bag;
 
 // The best of all choices that fit the ring's rule, found in a lent room; or none, where no choice fits.
-// All rows are filled, then the lightest weight of the window is looked for that few enough pans make, then its pans.
+// Where few pans may weigh just the target, that is tried first: it takes a fraction of the time of the rows.
 pub fn best(ring: Ring, room: &mut [u8]) -> Option<Bag>
     requires { table_bytes ring.rule ring.weights.now ring.ages.now ≤ length room.old }
     ensures { Found (fits ring.entry.rule ring.entry.weights.now ring.entry.ages.now) ring.entry.weights.now result }
 {
-    let rule = ring.rule;
     let seen = survey(ring);
-    if !seen.leaves_a_bag(rule) {
+    if !seen.leaves_a_bag(ring.rule) {
         return None;
     }
+    if seen.few_may_do(ring.rule) {
+        let easy = exact::best(ring, room);
+        if easy.is_some() {
+            return easy;
+        }
+    }
+    by_rows(ring, seen, room)
+}
+
+// All rows are filled, then the lightest weight of the window is looked for that few enough pans make, then its pans.
+fn by_rows(ring: Ring, seen: Survey, room: &mut [u8]) -> Option<Bag>
+    requires seen { Surveyed ring.rule.age ring.weights.now ring.ages.now seen }
+    requires leaves { (seen.ready && (nat_le seen.held ring.rule.pans && nat_le seen.due (ring.rule.target + ring.rule.above))) ≡ true }
+    requires room { table_bytes ring.rule ring.weights.now ring.ages.now ≤ length room.old }
+    ensures { Found (fits ring.entry.rule ring.entry.weights.now ring.entry.ages.now) ring.entry.weights.now result }
+{
+    let rule = ring.rule;
     let span = seen.span(rule);
     let from = rule.target.saturating_sub(seen.due) as usize;
     let shape = Shape::of(span, seen.heaviest as usize);
@@ -37,7 +55,7 @@ pub fn best(ring: Ring, room: &mut [u8]) -> Option<Bag>
     let limit = (rule.pans - seen.held).min(254) as u8;
     let x = table.lightest(from, limit)?;
     Some(Bag {
-        pans: table.read(&free, x),
+        pans: table.read(&free, &due_of(ring), x),
         weight: seen.due + x as u32,
     })
 }

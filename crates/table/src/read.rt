@@ -1,10 +1,10 @@
 // A ring's table in a lent room, and the bag read off it: its weight, and the pans from the first on.
 ghost use Rattle.std.specs.Prelude.{◌≡◌, ℕ, ◌+◌, ◌-◌, ◌*◌, ◌^◌, ◌<◌, ◌≤◌, true, cond, length, nat_lt, slice_index};
 ghost use Rattle.choices.specs.Choice.{bit};
-ghost use Rattle.table.specs.Pans.{free_at, none_due_empty, pairs_of};
+ghost use Rattle.table.specs.Pans.{due_at, free_at, none_due_empty, pairs_of};
 ghost use Rattle.table.specs.Rows.{Lightest, Reaches, Read, Rows, back, joined, row_at};
 
-use crate::pans::{due_at, pairs};
+use crate::pans::pairs;
 use crate::shape::Shape;
 use choices::Ring;
 
@@ -75,8 +75,9 @@ impl Table<'_, '_> {
     }
 
     // The pans of the choice that makes a weight, as the number that is answered.
-    pub fn read(self, free: &[u32; 24], weight: usize) -> u32
+    pub fn read(self, free: &[u32; 24], due: &[u32; 24], weight: usize) -> u32
         requires free { (i : ℕ) → i < 24 → slice_index free.now i ≡ free_at self.ring.rule.age self.ring.weights.now self.ring.ages.now i }
+        requires due { (i : ℕ) → i < 24 → slice_index due.now i ≡ bit (due_at self.ring.rule.age self.ring.weights.now self.ring.ages.now i) }
         requires rows { Rows self.ring.rule.age self.ring.weights.now self.ring.ages.now weight (64 * self.shape.blocks - 1) self.shape.pad (self.shape.pad + 64 * self.shape.blocks) 0 self.bytes.now }
         requires reach { Reaches self.ring.rule.age self.ring.weights.now self.ring.ages.now self.shape.pad (64 * self.shape.blocks) }
         requires within { weight ≤ self.span }
@@ -92,8 +93,8 @@ impl Table<'_, '_> {
             let second = free[pan + 1] as usize;
             let (opens, also) = self.opens(row, left, first, second);
             left -= taken(opens, first) + taken(also, second);
-            pans += mark(due_at(self.ring, pan) | opens, pan);
-            pans += mark(due_at(self.ring, pan + 1) | also, pan + 1);
+            pans += mark((due[pan] == 1) | opens, pan);
+            pans += mark((due[pan + 1] == 1) | also, pan + 1);
             row -= self.shape.wide();
         }
         pans

@@ -24,6 +24,7 @@ fn start_row(row: &mut [u8], pad: usize)
 // pans together weigh less.
 fn add_pair(
     room: &mut [u8],
+    never: [u8; BLOCK],
     row: usize,
     shape: Shape,
     low: usize,
@@ -31,6 +32,7 @@ fn add_pair(
     first: usize,
     second: usize,
 )
+    requires never { (x : ℕ) → x < 64 → slice_index never x ≡ 255 }
     requires room { (shape.pad ≤ row) × (row + 64 * shape.blocks + (shape.pad + 64 * shape.blocks) ≤ length room.old) }
     requires within { high ≤ shape.blocks }
     requires small { (first ≤ 1000000) × (second ≤ 1000000) }
@@ -43,7 +45,6 @@ fn add_pair(
 {
     let pad = shape.pad;
     let next = row + shape.wide();
-    let never = get(room, row - pad);
     blank(room, never, next - pad, pad / BLOCK);
     for block in low..high {
         add_block(room, row, next, pad, BLOCK * block, first, second);
@@ -63,6 +64,7 @@ pub fn fill(ring: Ring, seen: Survey, free: &[u32; 24], from: usize, shape: Shap
     let wide = shape.wide();
     let all = seen.free as usize;
     start_row(&mut room[..wide], shape.pad);
+    let never = get(room, 0);
     let mut row = shape.pad;
     let mut before = all;
     for pair in (0..pairs(ring)).rev() {
@@ -71,7 +73,7 @@ pub fn fill(ring: Ring, seen: Survey, free: &[u32; 24], from: usize, shape: Shap
         before -= first + second;
         let low = from.saturating_sub(before) / BLOCK;
         let high = shape.blocks.min((all - before) / BLOCK + 1);
-        add_pair(room, row, shape, low, high, first, second);
+        add_pair(room, never, row, shape, low, high, first, second);
         row += wide;
     }
 }

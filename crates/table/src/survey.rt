@@ -51,6 +51,11 @@ impl Survey {
         self.ready && self.held <= rule.pans && self.due <= rule.target + rule.above
     }
 
+    // Whether four free pans can weigh so much that they may make up the target. Only the time depends on it, so it promises nothing.
+    pub fn few_may_do(self, rule: Rule) -> bool {
+        rule.target.saturating_sub(self.due) / 4 <= self.heaviest
+    }
+
     // The most that the free pans of a bag may weigh.
     pub fn span(self, rule: Rule) -> usize
         requires { rule.target + rule.above < 2 ^ 32 }

@@ -1,9 +1,9 @@
 -- What is left of the proof that the first choice is read.
-use Rattle.std.proofs.Common.{◌+◌, ◌-◌, ◌*◌, ◌≤◌, get_or, ◌≡◌, ◌<◌, length, arith}
+use Rattle.std.proofs.Common.{eqb, ◌||◌, ◌+◌, ◌-◌, ◌*◌, ◌≤◌, get_or, ◌≡◌, ◌<◌, length, arith}
 use Rattle.std.proofs.Math.Pow.{pow_mono}
 use Rattle.table.specs.Pans.{pairs_of}
 use Rattle.table.proofs.Filling.{row_below, rows_all}
-use Rattle.table.proofs.Reading.{reading_none, reading_two, reading_left}
+use Rattle.table.proofs.Reading.{marked, small_more, reading_none, reading_two, reading_left}
 use Rattle.table.proofs.read.Table.read.Goals as goal
 
 pub loop-pair-init : goal.loop-pair-init
@@ -35,6 +35,13 @@ overflow_sub-row c =
     let few = rw c.pairs-pair-end.ensures at c.loop-pair-test.true in
     omega (arith, (row_below _ _ _ _ _ few c.loop-pair.invariant.1).0, c.wide-row.ensures)
 
+pub overflow_add-pans : goal.overflow_add-pans
+overflow_add-pans c =
+    let few = rw c.pairs-pair-end.ensures at c.loop-pair-test.true in
+    let fits =
+    small_more (2 * c.loop-pair.pair) c.loop-pair.pans (eqb (get_or c.args.due.now (2 * c.loop-pair.pair) 0) 1 || c.opens-opens.result.0) c.loop-pair.invariant.0.small in
+    omega (arith, fits, c.mark-pans.ensures, pow_mono {i = 2 * c.loop-pair.pair + 1} {j = 24} (omega (arith, few, c.args.self.ring.few)))
+
 pub overflow_add-pans-in-loop-pair : goal.overflow_add-pans-in-loop-pair
 overflow_add-pans-in-loop-pair c =
     let few = rw c.pairs-pair-end.ensures at c.loop-pair-test.true in
@@ -46,7 +53,7 @@ overflow_add-pans-in-loop-pair c =
     (c.loop-pair.pans + c.mark-pans.result) (c.loop-pair.pans + c.mark-pans.result + c.mark-pans-in-loop-pair.result) c.loop-pair.invariant.0
     (rw (one, other) at c.opens-opens.ensures.first) (rw (one, other) at c.opens-opens.ensures.second)
     (omega (arith, rw one at c.taken.ensures, rw other at c.taken-in-loop-pair.ensures))
-    (omega (arith, rw c.due_at.ensures at c.mark-pans.ensures)) (omega (arith, rw c.due_at-in-loop-pair.ensures at c.mark-pans-in-loop-pair.ensures)) in
+    (omega (arith, rw (marked _ (c.requires.due (2 * c.loop-pair.pair) (omega (arith, few, c.args.self.ring.few)))) at c.mark-pans.ensures)) (omega (arith, rw (marked _ (c.requires.due (2 * c.loop-pair.pair + 1) (omega (arith, few, c.args.self.ring.few)))) at c.mark-pans-in-loop-pair.ensures)) in
     omega (arith, h.small, pow_mono {i = 2 * (c.loop-pair.pair + 1)} {j = 24} (omega (arith, few, c.args.self.ring.few)))
 
 pub loop-pair-preserved : goal.loop-pair-preserved
@@ -60,6 +67,6 @@ loop-pair-preserved c =
           (c.loop-pair.pans + c.mark-pans.result) (c.loop-pair.pans + c.mark-pans.result + c.mark-pans-in-loop-pair.result) c.loop-pair.invariant.0
           (rw (one, other) at c.opens-opens.ensures.first) (rw (one, other) at c.opens-opens.ensures.second)
           (omega (arith, rw one at c.taken.ensures, rw other at c.taken-in-loop-pair.ensures))
-          (omega (arith, rw c.due_at.ensures at c.mark-pans.ensures)) (omega (arith, rw c.due_at-in-loop-pair.ensures at c.mark-pans-in-loop-pair.ensures)),
+          (omega (arith, rw (marked _ (c.requires.due (2 * c.loop-pair.pair) (omega (arith, few, c.args.self.ring.few)))) at c.mark-pans.ensures)) (omega (arith, rw (marked _ (c.requires.due (2 * c.loop-pair.pair + 1) (omega (arith, few, c.args.self.ring.few)))) at c.mark-pans-in-loop-pair.ensures)),
       below.1,
     )

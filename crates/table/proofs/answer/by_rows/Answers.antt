@@ -1,0 +1,42 @@
+-- What is left of the proof that the rows give the best bag.
+use Rattle.std.proofs.Common.{sym, ◌∙◌, arith}
+use Rattle.std.proofs.lemmas.Bool.{and_parts}
+use Rattle.table.proofs.Bests.{reaches, rows_fit, rows_from, window, none_found, best_found}
+use Rattle.table.proofs.answer.by_rows.Goals as goal
+
+pub fill-requires-clause-reach : goal.fill-requires-clause-reach
+fill-requires-clause-reach c = reaches c.span-span.result c.requires.seen c.args.ring.paired c.of-shape.ensures.pad c.of-shape.ensures.blocks
+
+pub fill-requires-clause-enough : goal.fill-requires-clause-enough
+fill-requires-clause-enough c =
+    rows_fit c.args.ring.rule c.requires.seen c.span-span.ensures c.of-shape.ensures.pad c.of-shape.ensures.blocks c.requires.room
+
+pub invariant_of-table : goal.invariant_of-table
+invariant_of-table c =
+    let h = c.requires.seen in
+    let p = and_parts c.args.seen.ready _ c.requires.leaves in
+    record {
+      ready = sym h.ready ∙ p.0;
+      whole = omega (arith, c.of-shape.ensures.blocks);
+      enough = omega (arith, rows_fit c.args.ring.rule h c.span-span.ensures c.of-shape.ensures.pad c.of-shape.ensures.blocks c.requires.room);
+    }
+
+pub returns-in_err-x : goal.returns-in_err-x
+returns-in_err-x c =
+    let r = c.args.ring in
+    let t =
+    window c.requires.seen c.requires.leaves r.paired r.few c.span-span.ensures (omega (arith, c.of-shape.ensures.blocks)) c.fill.ensures
+    c.saturating_sub-from.ensures c.min-limit.ensures in
+    rw c.from_residual.ensures (none_found t c.in_err-x.ensures)
+
+pub read-requires-clause-reach : goal.read-requires-clause-reach
+read-requires-clause-reach c = reaches c.span-span.result c.requires.seen c.args.ring.paired c.of-shape.ensures.pad c.of-shape.ensures.blocks
+
+pub returns : goal.returns
+returns c =
+    let r = c.args.ring in
+    let h = c.requires.seen in
+    let t =
+    window h c.requires.leaves r.paired r.few c.span-span.ensures (omega (arith, c.of-shape.ensures.blocks)) c.fill.ensures
+    c.saturating_sub-from.ensures c.min-limit.ensures in
+    rw h.due (best_found t c.in_ok-x.ensures c.read.ensures)
