@@ -40,6 +40,7 @@ opened_le [] = omega arith
 opened_le (true ∷ cs) = omega (arith, opened_le cs)
 opened_le (false ∷ cs) = omega (arith, opened_le cs)
 
+-- no choice weighs more than as many of the heaviest
 pub weight_le : (m : ℕ) (ws : List ℕ) (cs : Choice) → ((i : ℕ) → get_or ws i 0 ≤ m) → weight_of ws cs ≤ opened cs * m
 weight_le m [] cs heavy = omega arith
 weight_le m (w ∷ ws) [] heavy = omega arith

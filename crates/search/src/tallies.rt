@@ -3,7 +3,7 @@ ghost use Rattle.std.specs.Prelude.{◌≡◌, ℕ, ◌^◌, ◌<◌, length, sl
 ghost use Rattle.choices.specs.Choice.{opened, weight_of};
 ghost use Rattle.choices.specs.Numbered.{choice_of};
 ghost use Rattle.choices.specs.Tallied.{Tallied, empty_ones, old_ones, waiting_of};
-ghost use Rattle.search.specs.Groups.{nothing, part};
+ghost use Rattle.search.specs.Groups.{nothing, part as part_at};
 
 use choices::{Ring, Tally, look, waiting};
 
@@ -15,10 +15,18 @@ pub struct Tallies<'a> {
     pub waiting: u32,
     groups: [Tally; 256],
     ghost waits: { waiting ≡ waiting_of ring.rule.age ring.ages.now },
-    ghost weighs: { (i : ℕ) → i < 256 → (slice_index_or groups i nothing).weight ≡ weight_of ring.weights.now (choice_of (length ring.weights.now) (part i)) },
-    ghost counts: { (i : ℕ) → i < 256 → (slice_index_or groups i nothing).pans ≡ opened (choice_of (length ring.weights.now) (part i)) },
-    ghost empties: { (i : ℕ) → i < 256 → (slice_index_or groups i nothing).empty ≡ weight_of (empty_ones ring.weights.now) (choice_of (length ring.weights.now) (part i)) },
-    ghost olds: { (i : ℕ) → i < 256 → (slice_index_or groups i nothing).old ≡ weight_of (old_ones ring.rule.age ring.ages.now) (choice_of (length ring.weights.now) (part i)) },
+    ghost weighs: { (i : ℕ) → i < 256 → (slice_index_or groups i nothing).weight ≡ weight_of ring.weights.now (choice_of (length ring.weights.now) (part_at i)) },
+    ghost counts: { (i : ℕ) → i < 256 → (slice_index_or groups i nothing).pans ≡ opened (choice_of (length ring.weights.now) (part_at i)) },
+    ghost empties: { (i : ℕ) → i < 256 → (slice_index_or groups i nothing).empty ≡ weight_of (empty_ones ring.weights.now) (choice_of (length ring.weights.now) (part_at i)) },
+    ghost olds: { (i : ℕ) → i < 256 → (slice_index_or groups i nothing).old ≡ weight_of (old_ones ring.rule.age ring.ages.now) (choice_of (length ring.weights.now) (part_at i)) },
+}
+
+// The choice whose tally is an entry.
+fn part(i: usize) -> u32
+    requires { i < 256 }
+    ensures { result ≡ part_at i }
+{
+    ((i % 64) as u32) << (6 * (i / 64))
 }
 
 impl<'a> Tallies<'a> {
@@ -26,8 +34,8 @@ impl<'a> Tallies<'a> {
         ensures { result.ring ≡ ring.entry }
     {
         let mut groups = [Tally::default(); 256];
-        for i in 0..256usize {
-            groups[i] = look(ring, ((i % 64) as u32) << (6 * (i / 64)));
+        for (i, group) in groups.iter_mut().enumerate() {
+            *group = look(ring, part(i));
         }
         Tallies {
             ring,

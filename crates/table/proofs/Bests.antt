@@ -4,7 +4,7 @@ use Rattle.std.proofs.lemmas.Bool.{and_parts, and_from, both_ways, cases_lt, fal
 use Rattle.std.proofs.lemmas.Bool.Decides.{nat_tests}
 use Rattle.choices.specs.Choice.{Choice, weight_of, opened, none_empty, keeps_old, fits}
 use Rattle.choices.specs.declared.rule.Rule.{Rule}
-use Rattle.choices.proofs.Choices.{Fitting, fitting, fits_from}
+use Rattle.choices.proofs.Choices.{Fitting, fitting, fits_from, opened_le}
 use Rattle.order.specs.Order.{better, first_more, NoneOf, BestBag}
 use Rattle.table.specs.Pans.{due_weight, due_pans, free_weight, free_pans, none_due_empty, span_of, row_bytes, table_bytes}
 use Rattle.table.specs.Rows.{Makes, Row, Rows, Read, Lightest, LightestAt}
@@ -37,11 +37,6 @@ none_due_from old (w ∷ ws) (a ∷ as') (true ∷ cs) e f h =
 none_due_from old (w ∷ ws) (a ∷ as') (false ∷ cs) e f h =
     let p = and_parts (ltb a old) (keeps_old old as' cs) h in
     rw p.0 (none_due_from old ws as' cs (omega arith) f p.1)
-
-opened_le : (cs : Choice) → opened cs ≤ length cs
-opened_le [] = omega arith
-opened_le (true ∷ cs) = omega (arith, opened_le cs)
-opened_le (false ∷ cs) = omega (arith, opened_le cs)
 
 weight_le : (old : ℕ) (ws as' : List ℕ) (cs : Choice) → length as' ≡ length ws → weight_of ws cs ≤ due_weight old ws as' + free_weight old ws as'
 weight_le old [] as' cs e = omega arith

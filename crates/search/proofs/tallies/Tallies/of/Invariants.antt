@@ -7,5 +7,5 @@ use Rattle.search.proofs.tallies.Tallies.of.Given as goal
 
 abbrev pub invariant-loop-i : goal.invariant-loop-i
 invariant-loop-i l =
-    (length l.groups ≡ 256)
-    × ((k : ℕ) → k < l.i → Tallied l.ring.weights.now l.ring.ages.now l.ring.rule.age (choice_of (length l.ring.weights.now) (part k)) (get_or l.groups k nothing))
+    (length l.group-items ≡ 256)
+    × ((k : ℕ) → k < l.i → Tallied l.ring.weights.now l.ring.ages.now l.ring.rule.age (choice_of (length l.ring.weights.now) (part k)) (get_or l.group-items k nothing))
