@@ -1,7 +1,8 @@
 // The ring's criterion: every choice of its pans is a candidate, those that fit the rule are allowed, the better one beats.
-ghost use Rattle.std.specs.Prelude.{◌≡◌, ℕ, ◌+◌, ◌%◌, ◌^◌, ◌≤◌, true, length};
+ghost use Rattle.std.specs.Prelude.{◌≡◌, ℕ, ◌+◌, ◌%◌, ◌^◌, ◌<◌, ◌≤◌, true, length};
 ghost use Rattle.choices.specs.Choice.{fits as fits_rule};
 ghost use Rattle.choices.specs.Numbered.{choice_of};
+ghost use Rattle.choices.specs.Tallied.{Tallied};
 ghost use Rattle.search.specs.Block.{Useless};
 ghost use Rattle.order.proofs.Orders.{ranks_better};
 ghost use Rattle.order.specs.Order.{Found, better as is_better};
@@ -10,7 +11,7 @@ use crate::criterion::Criterion;
 use crate::scan::search;
 use crate::tallies::Tallies;
 use choices::{Ring, number, weight};
-use order::{Bag, better};
+use order::{Bag, Seen, ahead};
 
 // Candidate k is the choice in the bits of k, pan 0 in the highest.
 impl<'a> Criterion for Tallies<'a> {
@@ -31,7 +32,7 @@ impl<'a> Criterion for Tallies<'a> {
     }
 
     fn beats(&self, a: u64, b: u64) -> bool {
-        better(self.ring, a as u32, b as u32)
+        ahead(self.ring, seen_of(self, a), seen_of(self, b))
     }
 
     // A number with zeros at its end heads a block of choices that open what it opens and some of the last pans.
@@ -46,6 +47,18 @@ impl<'a> Criterion for Tallies<'a> {
         } else {
             k + 1
         }
+    }
+}
+
+// A candidate by the tallies at hand.
+fn seen_of(tallies: &Tallies, k: u64) -> Seen
+    requires { k < 2 ^ length tallies.now.ring.weights.now }
+    ensures chosen { result.choice ≡ k }
+    ensures tallied { Tallied tallies.now.ring.weights.now tallies.now.ring.ages.now tallies.now.ring.rule.age (choice_of (length tallies.now.ring.weights.now) k) result.tally }
+{
+    Seen {
+        choice: k as u32,
+        tally: tallies.tally(k),
     }
 }
 
