@@ -30,6 +30,7 @@ fn part(i: usize) -> u32
 }
 
 impl<'a> Tallies<'a> {
+    // Each entry is the tally of its choice, as one look over the pans tells it.
     pub fn of(ring: Ring<'a>) -> Tallies<'a>
         ensures { result.ring ≡ ring.entry }
     {
