@@ -1,5 +1,5 @@
 -- Laws of choices: what fits has the ring's length, and what the tests of a rule tell.
-use Rattle.std.proofs.Common.{◌≡◌, ℕ, ◌+◌, ◌≤◌, Bool, true, false, ◌&&◌, leb, List, length, refl}
+use Rattle.std.proofs.Common.{◌≡◌, ℕ, suc, ◌+◌, ◌*◌, ◌≤◌, true, false, List, [], ◌∷◌, length, get_or, add-mul, arith}
 use Rattle.std.proofs.lemmas.Bool.{and_parts, and_from, leb-true, le-leb, eqb-true, eq-eqb}
 use Rattle.choices.specs.Choice.{Choice, weight_of, opened, none_empty, keeps_old, fits}
 use Rattle.choices.specs.declared.rule.Rule.{Rule}
@@ -35,14 +35,14 @@ unfolding fits
 fits_from r ws as' cs h =
     and_from _ _ (eq-eqb _ _ h.whole) (and_from _ _ (le-leb _ _ h.enough) (and_from _ _ (le-leb _ _ h.within) (and_from _ _ (le-leb _ _ h.few) (and_from _ _ h.filled h.waited))))
 
--- the test as it is worked out for a choice of the ring's length
-pub fits_is :
-    (r : Rule) (ws as' : List ℕ) (cs : Choice) → length cs ≡ length ws →
-    (((leb r.target (weight_of ws cs) && leb (weight_of ws cs) (r.target + r.above)) && leb (opened cs) r.pans) && (none_empty ws cs && keeps_old r.age as' cs)) ≡ fits r ws as' cs
-unfolding fits
-fits_is r ws as' cs e = rw (eq-eqb (length cs) (length ws) e) (regroup (leb r.target (weight_of ws cs)) (leb (weight_of ws cs) (r.target + r.above)) (leb (opened cs) r.pans) _)
-  where
-    regroup : (a b d s : Bool) → (((a && b) && d) && s) ≡ (a && (b && (d && s)))
-    regroup false b d s = refl
-    regroup true false d s = refl
-    regroup true true d s = refl
+pub opened_le : (cs : Choice) → opened cs ≤ length cs
+opened_le [] = omega arith
+opened_le (true ∷ cs) = omega (arith, opened_le cs)
+opened_le (false ∷ cs) = omega (arith, opened_le cs)
+
+-- no choice weighs more than as many of the heaviest
+pub weight_le : (m : ℕ) (ws : List ℕ) (cs : Choice) → ((i : ℕ) → get_or ws i 0 ≤ m) → weight_of ws cs ≤ opened cs * m
+weight_le m [] cs heavy = omega arith
+weight_le m (w ∷ ws) [] heavy = omega arith
+weight_le m (w ∷ ws) (true ∷ cs) heavy = omega (arith, heavy 0, weight_le m ws cs (λ i. heavy (suc i)), add-mul 1 (opened cs) m)
+weight_le m (w ∷ ws) (false ∷ cs) heavy = omega (arith, weight_le m ws cs (λ i. heavy (suc i)), add-mul 0 (opened cs) m)

@@ -3,3 +3,4 @@ mod Looking
 pub mod Blocks
 pub mod Choices
 pub mod Numbers
+pub mod Tallies

@@ -1,9 +1,9 @@
 -- Laws of choices as numbers: every choice is some number, and every number is some choice.
-use Rattle.std.proofs.Common.{◌≡◌, ℕ, zero, suc, ◌+◌, ◌*◌, ◌/◌, ◌%◌, ◌^◌, ◌<◌, ◌≤◌, Bool, true, false, eqb, [], ◌∷◌, length, sym, refl, ap, ◌∙◌, ap₂, mul_assoc, mul_comm, add-one, arith}
+use Rattle.std.proofs.Common.{◌≡◌, ℕ, zero, suc, ◌+◌, ◌*◌, ◌/◌, ◌%◌, ◌^◌, ◌<◌, ◌≤◌, Bool, true, false, eqb, [], ◌∷◌, length, sym, refl, ap, ◌∙◌, ap₂, mod-eq_of_lt, mul_assoc, mul_comm, add-one, arith}
 use native.Mathlib.Nat.{pow-succ', mul-add-div_right}
 use Rattle.std.proofs.lemmas.Nat.{pow_pos, pow_below, shr_high, mod-pow-add}
 use Rattle.std.proofs.lemmas.Bool.Decides.{nat_tests}
-use Rattle.choices.specs.Choice.{Choice, bit}
+use Rattle.choices.specs.Choice.{Choice, bit, opened}
 use Rattle.choices.specs.Numbered.{choice_of, choice_from, number_of, odd}
 
 pub length_choice_of : (n m : ℕ) → length (choice_of n m) ≡ n
@@ -36,15 +36,15 @@ number_more n m = rw (add-one n) (omega (arith, bit_odd (m / 2 ^ n)))
 pub number_room : (n m : ℕ) → n < 24 → number_of (choice_of n m) < 2 ^ 24
 number_room n m h = omega (arith, number_lt (choice_of n m), ap (λ (k : ℕ). 2 ^ k) (length_choice_of n m), pow_below n 24 h)
 
+pub odd_more : (a q : ℕ) → odd (2 * a + q) ≡ odd q
+odd_more a q = let h : (2 * a + q) % 2 ≡ q % 2 = omega arith in ap (λ (x : ℕ). eqb x 1) h
+
 -- what stands above the n bits does not matter
 pub choice_of_high : (n a m : ℕ) → choice_of n (a * 2 ^ n + m) ≡ choice_of n m
 choice_of_high zero a m = refl
 choice_of_high (suc n) a m =
     let e : a * 2 ^ suc n + m ≡ (2 * a) * 2 ^ n + m = rw (pow-succ' 2 n) (omega (arith, mul_assoc a 2 (2 ^ n), mul_comm a 2)) in
-    rw e (ap₂ ◌∷◌ (ap odd (mul-add-div_right (pow_pos n) (2 * a) m) ∙ even a (m / 2 ^ n)) (choice_of_high n (2 * a) m))
-  where
-    even : (a q : ℕ) → odd (2 * a + q) ≡ odd q
-    even a q = let h : (2 * a + q) % 2 ≡ q % 2 = omega arith in ap (λ (x : ℕ). eqb x 1) h
+    rw e (ap₂ ◌∷◌ (ap odd (mul-add-div_right (pow_pos n) (2 * a) m) ∙ odd_more a (m / 2 ^ n)) (choice_of_high n (2 * a) m))
 
 -- a choice's number, pan 0 in the highest bit
 abbrev pub code : Choice → ℕ
@@ -87,3 +87,16 @@ choice_from_number (c ∷ cs) =
     half : (c : Bool) (n : ℕ) → (bit c + 2 * n) / 2 ≡ n
     half true n = omega arith
     half false n = omega arith
+
+-- what opens no pan is number 0
+pub none_opened : (cs : Choice) → opened cs ≡ 0 → code cs ≡ 0
+none_opened [] e = refl
+none_opened (true ∷ cs) e = absurd (omega arith)
+none_opened (false ∷ cs) e = omega (arith, none_opened cs (omega arith))
+
+pub some_opened : (n m : ℕ) → 0 < m → m < 2 ^ n → 1 ≤ opened (choice_of n m)
+some_opened n m p l = at (opened (choice_of n m)) refl
+  where
+    at : (k : ℕ) → opened (choice_of n m) ≡ k → 1 ≤ k
+    at zero e = absurd (omega (arith, none_opened (choice_of n m) e, code_choice_of n m, mod-eq_of_lt l))
+    at (suc k) e = omega arith

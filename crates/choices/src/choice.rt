@@ -5,7 +5,7 @@ ghost use Rattle.choices.specs.Numbered.{choice_of, number_of};
 ghost use Rattle.std.specs.Prelude.{◌≡◌, length};
 
 use crate::ring::Ring;
-use crate::tally::look;
+use crate::tally::{look, waiting};
 
 // What the opened pans weigh together.
 pub fn weight(ring: Ring, choice: u32) -> u32
@@ -25,12 +25,7 @@ pub fn count(ring: Ring, choice: u32) -> u32
 pub fn fits(ring: Ring, choice: u32) -> bool
     ensures { result ≡ fits_rule ring.entry.rule ring.entry.weights.now ring.entry.ages.now (choice_of (length ring.entry.weights.now) choice) }
 {
-    let seen = look(ring, choice);
-    let rule = ring.rule;
-    (rule.target <= seen.weight)
-        & (seen.weight <= rule.target + rule.above)
-        & (seen.pans <= rule.pans)
-        & (seen.filled & seen.waited)
+    look(ring, choice).fits(ring.rule, waiting(ring))
 }
 
 // The number that is answered for a choice: 2 to the power of each opened pan's number, added.

@@ -1,50 +1,65 @@
-// What one look over the pans tells of a choice.
-ghost use Rattle.std.specs.Prelude.{◌≡◌, ◌+◌, ◌^◌, ◌<◌, ◌≤◌, not, ◌&&◌, ◌||◌, length, if◌then◌else◌, nat_le};
+// What one look over the pans tells of a choice: four numbers, each of which adds up over the opened pans.
+ghost use Rattle.std.specs.Prelude.{◌≡◌, ◌+◌, ◌^◌, ◌<◌, ◌≤◌, length, if◌then◌else◌, ◌==◌};
 ghost use Rattle.choices.specs.Choice.{bit};
 ghost use Rattle.choices.specs.Numbered.{choice_of};
-ghost use Rattle.choices.specs.Tallied.{Tallied};
+ghost use Rattle.choices.specs.Tallied.{Adds, Tallied, makes_bag, waiting_of};
 
 use crate::ring::Ring;
+use crate::rule::Rule;
 
-// What the opened pans weigh, how many they are, whether none of them is empty, and whether every pan that has waited too long is among them.
-#[derive(Clone, Copy)]
+// What the opened pans weigh, how many they are, how many of them are empty, and how many have waited too long.
+#[derive(Clone, Copy, Default)]
 pub struct Tally {
     pub weight: u32,
     pub pans: u32,
-    pub filled: bool,
-    pub waited: bool,
+    pub empty: u32,
+    pub old: u32,
 }
 
 impl Tally {
-    // Not what a `Default` would give: where nothing is opened, nothing empty is.
-    const NOTHING: Tally = Tally {
-        weight: 0,
-        pans: 0,
-        filled: true,
-        waited: true,
-    };
+    // Two tallies added up: of two choices that open no pan both, the tally of what they open together.
+    pub fn and(self, other: Tally) -> Tally
+        requires { (self.weight + other.weight < 2 ^ 32) × ((self.pans + other.pans < 2 ^ 32) × ((self.empty + other.empty < 2 ^ 32) × (self.old + other.old < 2 ^ 32))) }
+        ensures { Adds self other result }
+    {
+        Tally {
+            weight: self.weight + other.weight,
+            pans: self.pans + other.pans,
+            empty: self.empty + other.empty,
+            old: self.old + other.old,
+        }
+    }
 
-    // The tally with one pan more, of which is known whether it may wait on and whether it is opened.
-    fn with(self, weight: u32, may_wait: bool, opened: bool) -> Tally
-        requires { (self.weight + weight < 2 ^ 32) × (self.pans + 1 < 2 ^ 32) }
+    // The tally with one pan more, of which is known whether it has waited too long and whether it is opened.
+    fn with(self, weight: u32, waited: bool, opened: bool) -> Tally
+        requires { (self.weight + weight < 2 ^ 32) × ((self.pans + 1 < 2 ^ 32) × ((self.empty + 1 < 2 ^ 32) × (self.old + 1 < 2 ^ 32))) }
         ensures weighs { result.weight ≡ self.weight + (if opened then weight else 0) }
         ensures counts { result.pans ≡ self.pans + bit opened }
-        ensures fills { result.filled ≡ (self.filled && (not opened || nat_le 1 weight)) }
-        ensures waits { result.waited ≡ (self.waited && (opened || may_wait)) }
+        ensures empties { result.empty ≡ self.empty + (if opened then bit (weight == 0) else 0) }
+        ensures olds { result.old ≡ self.old + (if opened then bit waited else 0) }
     {
-        if opened {
+        let added = if opened {
             Tally {
-                weight: self.weight + weight,
-                pans: self.pans + 1,
-                filled: self.filled & (weight >= 1),
-                ..self
+                weight,
+                pans: 1,
+                empty: (weight == 0) as u32,
+                old: waited as u32,
             }
         } else {
-            Tally {
-                waited: self.waited & may_wait,
-                ..self
-            }
-        }
+            Tally::default()
+        };
+        self.and(added)
+    }
+
+    // Whether a choice with this tally makes a bag by a rule, where so many pans have waited too long.
+    pub fn fits(self, rule: Rule, waiting: u32) -> bool
+        requires { rule.target + rule.above < 2 ^ 32 }
+        ensures { result ≡ makes_bag rule waiting self }
+    {
+        (rule.target <= self.weight)
+            & (self.weight <= rule.target + rule.above)
+            & (self.pans <= rule.pans)
+            & ((self.empty == 0) & (self.old == waiting))
     }
 }
 
@@ -53,9 +68,17 @@ pub fn look(ring: Ring, choice: u32) -> Tally
     ensures { Tallied ring.entry.weights.now ring.entry.ages.now ring.entry.rule.age (choice_of (length ring.entry.weights.now) choice) result }
 {
     let places = (0..ring.weights.len()).rev();
-    let mut seen = Tally::NOTHING;
+    let mut seen = Tally::default();
     for ((w, a), place) in ring.weights.iter().zip(ring.ages).zip(places) {
-        seen = seen.with(*w, *a < ring.rule.age, (choice >> place) % 2 == 1);
+        seen = seen.with(*w, *a >= ring.rule.age, (choice >> place) % 2 == 1);
     }
     seen
+}
+
+// How many pans have waited too long.
+pub fn waiting(ring: Ring) -> u32
+    ensures { result ≡ waiting_of ring.entry.rule.age ring.entry.ages.now }
+{
+    let all = (1u32 << ring.weights.len()) - 1;
+    look(ring, all).old
 }

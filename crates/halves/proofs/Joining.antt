@@ -4,6 +4,7 @@ use Rattle.std.proofs.lemmas.Bool.{and_parts, and_from, both_ways, cases_lt}
 use Rattle.std.proofs.lemmas.Nat.{mul-le}
 use Rattle.std.proofs.lemmas.List.{length-append}
 use Rattle.choices.specs.Choice.{Choice, weight_of, opened}
+use Rattle.choices.proofs.Choices.{weight_le}
 use Rattle.places.specs.Place.{by_ways, place, pans_in}
 use Rattle.growth.specs.Entries.{Holds}
 use Rattle.halves.specs.Half.{Half, Worth}
@@ -11,7 +12,7 @@ use Rattle.halves.specs.declared.bounds.Bounds.{Bounds}
 use Rattle.sweeps.specs.Sweep.{ApartPairs, Few, Pair, LeastSum}
 use Rattle.halves.specs.Next.{Allowed, First}
 use Rattle.places.specs.declared.way.Way.{Way}
-use Rattle.places.proofs.Places.{length_by_ways, in_place, place_says, weight_le}
+use Rattle.places.proofs.Places.{length_by_ways, in_place, place_says}
 
 pub by_ways_join : (us vs : List Way) (cs ds : Choice) → by_ways us cs ≡ true → by_ways vs ds ≡ true → by_ways (us ++ vs) (cs ++ ds) ≡ true
 by_ways_join [] vs [] ds a b = b

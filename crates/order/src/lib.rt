@@ -6,5 +6,5 @@ mod compare;
 mod laws;
 
 pub use bag::Bag;
-pub use compare::better;
+pub use compare::{Seen, ahead, better};
 pub use laws::{best_is_one, better_is_an_order};

@@ -1,3 +1,4 @@
 -- The definitions that contracts cite.
 pub mod Block
+pub mod Groups
 pub mod Sought

@@ -1,5 +1,5 @@
 // What a search has to know of its candidates.
-ghost use Rattle.std.specs.Prelude.{◌≡◌, ℕ, ◌<◌, ◌≤◌, Bool};
+ghost use Rattle.std.specs.Prelude.{◌≡◌, ℕ, ◌+◌, ◌<◌, ◌≤◌, Bool};
 ghost use Rattle.search.specs.Sought.{Behind, Passes};
 ghost use Rattle.std.specs.Cmp.{IsStrictWeakOrder};
 
@@ -24,10 +24,10 @@ pub trait Criterion {
         requires { (a < count self.now) × (b < count self.now) }
         ensures { result ≡ beats self.now a b };
 
-    // The next candidate from k on that is worth a look: what is passed over is of no use beside the best so far.
-    fn worth(&self, k: u64, best: Option<u64>) -> u64
-        requires { (k < count self.now) × (Behind k best) }
-        ensures on { k ≤ result }
+    // The next candidate after k that is worth a look: what is passed over is of no use beside the best so far.
+    fn after(&self, k: u64, best: Option<u64>) -> u64
+        requires { (k < count self.now) × (Behind (k + 1) best) }
+        ensures on { k < result }
         ensures within { result ≤ count self.now }
-        ensures passed { (j : ℕ) → k ≤ j → j < result → Passes (allows self.now) (beats self.now) best j };
+        ensures passed { (j : ℕ) → k < j → j < result → Passes (allows self.now) (beats self.now) best j };
 }

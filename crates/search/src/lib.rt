@@ -4,7 +4,9 @@
 mod criterion;
 mod ring;
 mod scan;
+mod tallies;
 
 pub use criterion::Criterion;
 pub use ring::best;
 pub use scan::{Progress, advance, search};
+pub use tallies::Tallies;

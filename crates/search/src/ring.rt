@@ -1,79 +1,88 @@
 // The ring's criterion: every choice of its pans is a candidate, those that fit the rule are allowed, the better one beats.
-ghost use Rattle.std.specs.Prelude.{◌≡◌, ℕ, ◌^◌, true, length};
+ghost use Rattle.std.specs.Prelude.{◌≡◌, ℕ, ◌+◌, ◌%◌, ◌^◌, ◌<◌, ◌≤◌, true, length};
 ghost use Rattle.choices.specs.Choice.{fits as fits_rule};
 ghost use Rattle.choices.specs.Numbered.{choice_of};
+ghost use Rattle.choices.specs.Tallied.{Tallied};
 ghost use Rattle.search.specs.Block.{Useless};
 ghost use Rattle.order.proofs.Orders.{ranks_better};
 ghost use Rattle.order.specs.Order.{Found, better as is_better};
 
 use crate::criterion::Criterion;
 use crate::scan::search;
-use choices::{Ring, fits, look, number, weight};
-use order::{Bag, better};
+use crate::tallies::Tallies;
+use choices::{Ring, number, weight};
+use order::{Bag, Seen, ahead};
 
 // Candidate k is the choice in the bits of k, pan 0 in the highest.
-impl<'a> Criterion for Ring<'a> {
-    ghost count = { λ s. 2 ^ length s.weights.now };
+impl<'a> Criterion for Tallies<'a> {
+    ghost count = { λ s. 2 ^ length s.ring.weights.now };
 
-    ghost allows = { λ s k. fits_rule s.rule s.weights.now s.ages.now (choice_of (length s.weights.now) k) };
+    ghost allows = { λ s k. fits_rule s.ring.rule s.ring.weights.now s.ring.ages.now (choice_of (length s.ring.weights.now) k) };
 
-    ghost beats = { λ s a b. is_better s.weights.now (choice_of (length s.weights.now) a) (choice_of (length s.weights.now) b) };
+    ghost beats = { λ s a b. is_better s.ring.weights.now (choice_of (length s.ring.weights.now) a) (choice_of (length s.ring.weights.now) b) };
 
-    ghost ranks = { λ s. ranks_better s.weights.now (length s.weights.now) };
+    ghost ranks = { λ s. ranks_better s.ring.weights.now (length s.ring.weights.now) };
 
     fn count(&self) -> u64 {
-        1u64 << self.weights.len()
+        1u64 << self.ring.weights.len()
     }
 
     fn allows(&self, k: u64) -> bool {
-        fits(*self, k as u32)
+        self.tally(k).fits(self.ring.rule, self.waiting)
     }
 
     fn beats(&self, a: u64, b: u64) -> bool {
-        better(*self, a as u32, b as u32)
+        ahead(self.ring, seen_of(self, a), seen_of(self, b))
     }
 
-    // A number with zeros at its end heads a block of choices that differ in the last pans only.
-    fn worth(&self, k: u64, best: Option<u64>) -> u64 {
-        let free = k.trailing_zeros().min(self.weights.len() as u32);
-        if free < WIDE {
-            return k;
-        }
-        let next = k + (1u64 << free);
+    // A number with zeros at its end heads a block of choices that open what it opens and some of the last pans.
+    fn after(&self, k: u64, best: Option<u64>) -> u64 {
+        let free = k.trailing_zeros().min(self.ring.weights.len() as u32);
         let most = match best {
-            None => self.rule.target + self.rule.above,
-            Some(b) => weight(*self, b as u32),
+            None => self.ring.rule.target + self.ring.rule.above,
+            Some(b) => self.tally(b).weight,
         };
-        if useless(*self, k as u32, (next - 1) as u32, most) {
-            next
+        if useless(self, k, free, most) {
+            k + (1u64 << free)
         } else {
-            k
+            k + 1
         }
     }
 }
 
-// Blocks of fewer free pans cost more to test than to try.
-const WIDE: u32 = 2;
-
-// Whether a block of choices, each of which opens all that its head opens and no more than its last, has none that fits
-// and weighs at most `most`: the head is too heavy, opens too many or an empty pan; or all that may be opened is not
-// enough, or leaves an old pan shut.
-fn useless(ring: Ring, head: u32, last: u32, most: u32) -> bool
-    ensures { result ≡ true → Useless ring.entry.rule ring.entry.weights.now ring.entry.ages.now head last most }
+// A candidate by the tallies at hand.
+fn seen_of(tallies: &Tallies, k: u64) -> Seen
+    requires { k < 2 ^ length tallies.now.ring.weights.now }
+    ensures chosen { result.choice ≡ k }
+    ensures tallied { Tallied tallies.now.ring.weights.now tallies.now.ring.ages.now tallies.now.ring.rule.age (choice_of (length tallies.now.ring.weights.now) k) result.tally }
 {
-    let least = look(ring, head);
-    if least.weight > most || least.pans > ring.rule.pans || !least.filled {
+    Seen {
+        choice: k as u32,
+        tally: tallies.tally(k),
+    }
+}
+
+// Whether no choice of a block after its head fits and weighs at most `most`, since each opens one pan more than the head at
+// least and none that the last does not: the head is as heavy, opens as many or an empty pan; or the last is not
+// enough, or leaves an old pan shut.
+fn useless(tallies: &Tallies, head: u64, free: u32, most: u32) -> bool
+    requires { (head % 2 ^ free ≡ 0) × (head + 2 ^ free ≤ 2 ^ length tallies.now.ring.weights.now) }
+    ensures { result ≡ true → Useless tallies.now.ring.rule tallies.now.ring.weights.now tallies.now.ring.ages.now head free most }
+{
+    let rule = tallies.ring.rule;
+    let least = tallies.tally(head);
+    if least.weight >= most || least.pans >= rule.pans || least.empty > 0 {
         return true;
     }
-    let whole = look(ring, last);
-    whole.weight < ring.rule.target || !whole.waited
+    let whole = tallies.tally(head + (1u64 << free) - 1);
+    whole.weight < rule.target || whole.old < tallies.waiting
 }
 
 // The best choice of the ring's pans, or none where no choice whatever fits.
 pub fn best(ring: Ring) -> Option<Bag>
     ensures { Found (fits_rule ring.entry.rule ring.entry.weights.now ring.entry.ages.now) ring.entry.weights.now result }
 {
-    let k = search(&ring)? as u32;
+    let k = search(&Tallies::of(ring))? as u32;
     Some(Bag {
         pans: number(ring, k),
         weight: weight(ring, k),

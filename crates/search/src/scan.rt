@@ -32,23 +32,17 @@ fn consider<C: Criterion>(criterion: &C, k: u64, best: Option<u64>) -> Option<u6
     }
 }
 
-// What is not worth a look is passed over, or else one candidate is looked at: what follows a pass may be passed over too.
-fn step<C: Criterion>(criterion: &C, at: Progress, count: u64) -> Progress
-    requires { (count ≡ C.Criterion.count criterion.now) × ((at.next < count) × (Sought (C.Criterion.allows criterion.now) (C.Criterion.beats criterion.now) at.next at.best)) }
+// One candidate is looked at, and what is not worth a look after it is passed over.
+fn step<C: Criterion>(criterion: &C, at: Progress) -> Progress
+    requires { (at.next < C.Criterion.count criterion.now) × (Sought (C.Criterion.allows criterion.now) (C.Criterion.beats criterion.now) at.next at.best) }
     ensures on { at.next < result.next }
     ensures within { result.next ≤ C.Criterion.count criterion.now }
     ensures sought { Sought (C.Criterion.allows criterion.now) (C.Criterion.beats criterion.now) result.next result.best }
 {
-    let k = criterion.worth(at.next, at.best);
-    if k > at.next {
-        return Progress {
-            next: k,
-            best: at.best,
-        };
-    }
+    let best = consider(criterion, at.next, at.best);
     Progress {
-        next: k + 1,
-        best: consider(criterion, k, at.best),
+        next: criterion.after(at.next, best),
+        best,
     }
 }
 
@@ -65,7 +59,7 @@ pub fn advance<C: Criterion>(criterion: &C, from: Progress, steps: u64) -> Progr
         if at.next >= count {
             return at;
         }
-        at = step(criterion, at, count);
+        at = step(criterion, at);
     }
     at
 }

@@ -4,13 +4,13 @@ use Rattle.std.proofs.lemmas.Bool.{and_parts, and_from, both_ways, cases_lt, fal
 use Rattle.std.proofs.lemmas.Bool.Decides.{nat_tests}
 use Rattle.choices.specs.Choice.{Choice, weight_of, opened, none_empty, keeps_old, fits}
 use Rattle.choices.specs.declared.rule.Rule.{Rule}
-use Rattle.choices.proofs.Choices.{Fitting, fitting, fits_from}
+use Rattle.choices.proofs.Choices.{Fitting, fitting, fits_from, opened_le}
 use Rattle.order.specs.Order.{better, first_more, NoneOf, BestBag}
 use Rattle.table.specs.Pans.{due_weight, due_pans, free_at, none_due_empty, span_of, pairs_of, pad_of, width_of, row_bytes, table_bytes}
 use Rattle.table.specs.Rows.{Makes, Reaches, Row, Rows, Read, Lightest, LightestAt, row_at}
 use Rattle.table.specs.Surveyed.{Surveyed}
 use Rattle.table.specs.declared.survey.Survey.{Survey}
-use Rattle.table.proofs.Making.{due_le, held_le, opened_le, weight_le}
+use Rattle.table.proofs.Making.{due_le, held_le, weight_le}
 use Rattle.table.proofs.Joining.{pad_reaches}
 use Rattle.table.proofs.Surveying.{heaviest_is, span_is}
 use Rattle.table.proofs.Filling.{rows_all}

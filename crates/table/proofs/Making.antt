@@ -32,11 +32,6 @@ held_le old (a ∷ as') (true ∷ cs) e h = omega (arith, one (ltb a old), held_
 held_le old (a ∷ as') (false ∷ cs) e h =
     let p = and_parts (ltb a old) (keeps_old old as' cs) h in rw p.0 (omega (arith, held_le old as' cs (omega arith) p.1))
 
-pub opened_le : (cs : Choice) → opened cs ≤ length cs
-opened_le [] = omega arith
-opened_le (true ∷ cs) = omega (arith, opened_le cs)
-opened_le (false ∷ cs) = omega (arith, opened_le cs)
-
 pub weight_le : (old : ℕ) (ws as' : List ℕ) (cs : Choice) → length as' ≡ length ws → weight_of ws cs ≤ due_weight old ws as' + free_weight old ws as'
 weight_le old [] as' cs e = omega arith
 weight_le old (w ∷ ws) [] cs e = absurd (omega arith)

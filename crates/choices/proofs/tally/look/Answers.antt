@@ -15,7 +15,7 @@ pub loop-w-preserved : goal.loop-w-preserved
 loop-w-preserved c =
     let h = c.in-Some.ensures.steps in
     let e = c.with-seen.ensures in
-    (((tt, tt), tt), tt, h.1.0 ∙ c.loop-w.invariant.2, looking_next c.loop-w.invariant.3 h.0.0 h.0.1 h.1.1.2 h.1.1.1 e.weighs e.counts e.fills e.waits)
+    (((tt, tt), tt), tt, h.1.0 ∙ c.loop-w.invariant.2, looking_next c.loop-w.invariant.3 h.0.0 h.0.1 h.1.1.2 h.1.1.1 e.weighs e.counts e.empties e.olds)
 
 pub returns : goal.returns
 returns c =

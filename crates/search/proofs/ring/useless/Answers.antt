@@ -1,21 +1,51 @@
 -- What is left of the proof of the test of a block.
-use Rattle.std.proofs.Common.{sym, ◌∙◌, arith}
-use Rattle.std.proofs.lemmas.Bool.{not-true}
+use Rattle.std.proofs.Common.{◌≡◌, ℕ, ◌+◌, ◌-◌, ◌*◌, ◌%◌, ◌^◌, ◌≤◌, length, arith}
+use Rattle.std.proofs.lemmas.Nat.{one_shl, pow_pos}
+use Rattle.std.proofs.lemmas.Bool.{ltb-true}
+use Rattle.search.proofs.Groups.{candidate, narrow}
 use Rattle.search.proofs.Useless.{heavy, many, empty, light, shut}
 use Rattle.search.proofs.ring.useless.Goals as goal
-use Rattle.search.proofs.ring.useless.Goals.{then-least-most-via-then-least-most, then-least-most-via-else-least-most+then-least-ring, then-least-most-via-else-least-most+else-least-ring+then-not-least}
+use Rattle.search.proofs.ring.useless.Goals.{then-least-most-via-then-least-most, then-least-most-via-else-least-most+then-least-rule, then-least-most-via-else-least-most+else-least-rule+then-least-gt0}
+
+-- the last of the block, as it is worked out
+last : (n head free : ℕ) → n ≤ 24 → head + 2 ^ free ≤ 2 ^ n → head + (1 * 2 ^ free) % 18446744073709551616 - 1 ≡ head + 2 ^ free - 1
+last n head free few within = rw (one_shl free 64 (omega (arith, narrow n head free within)))
+
+pub tally-least-requires : goal.tally-least-requires
+tally-least-requires c =
+    let ring = c.args.tallies.now.ring in
+    candidate (length ring.weights.now) c.args.head ring.few (omega (arith, c.requires.1, pow_pos c.args.free))
 
 pub returns-then-least-most : goal.returns-then-least-most
 returns-then-least-most c _ =
-    let h = c.look-least.ensures in
+    let h = c.tally-least.ensures in
     elim c.then-least-most.branch [
-      | then-least-most-via-then-least-most w ↦ heavy _ _ _ c.args.head _ _ (omega (arith, h.weighs, w.if-least-most.true))
-      | then-least-most-via-else-least-most+then-least-ring w ↦ many _ _ _ c.args.head _ _ (omega (arith, h.counts, w.if-least-ring.true))
-      | then-least-most-via-else-least-most+else-least-ring+then-not-least w ↦ empty _ _ _ c.args.head _ _ (sym h.fills ∙ not-true _ w.if-not-least.true)
+      | then-least-most-via-then-least-most w ↦ heavy _ _ _ c.args.head _ _ c.requires.0 c.requires.1 (omega (arith, h.weighs, w.if-least-most.true))
+      | then-least-most-via-else-least-most+then-least-rule w ↦ many _ _ _ c.args.head _ _ c.requires.0 c.requires.1 (omega (arith, h.counts, w.if-least-rule.true))
+      | then-least-most-via-else-least-most+else-least-rule+then-least-gt0 w ↦ empty _ _ _ c.args.head _ _ c.requires.0 c.requires.1 (omega (arith, h.empties, w.if-least-gt0.true))
     ]
 
-pub returns-then-whole-ring : goal.returns-then-whole-ring
-returns-then-whole-ring c _ = light _ _ _ _ c.args.last _ (omega (arith, c.look-whole.ensures.weighs, c.if-whole-ring.true))
+pub overflow_shl-free : goal.overflow_shl-free
+overflow_shl-free c = let ring = c.args.tallies.now.ring in omega (arith, ring.few, narrow (length ring.weights.now) c.args.head c.args.free c.requires.1)
 
-pub returns-else-whole-ring : goal.returns-else-whole-ring
-returns-else-whole-ring c e = shut _ _ _ _ c.args.last _ (sym c.look-whole.ensures.waits ∙ not-true _ e)
+pub tally-whole-requires : goal.tally-whole-requires
+tally-whole-requires c =
+    let ring = c.args.tallies.now.ring in
+    let n = length ring.weights.now in
+    omega (
+      arith,
+      candidate n (c.args.head + 2 ^ c.args.free - 1) ring.few (omega (arith, c.requires.1, pow_pos c.args.free)),
+      last n c.args.head c.args.free ring.few c.requires.1,
+    )
+
+pub returns-then-whole-rule : goal.returns-then-whole-rule
+returns-then-whole-rule c _ =
+    let ring = c.args.tallies.now.ring in
+    let h = rw (last (length ring.weights.now) c.args.head c.args.free ring.few c.requires.1) at c.tally-whole.ensures in
+    light _ _ _ c.args.head _ _ c.requires.0 c.requires.1 (omega (arith, h.weighs, c.if-whole-rule.true))
+
+pub returns-else-whole-rule : goal.returns-else-whole-rule
+returns-else-whole-rule c e =
+    let ring = c.args.tallies.now.ring in
+    let h = rw (last (length ring.weights.now) c.args.head c.args.free ring.few c.requires.1) at c.tally-whole.ensures in
+    shut _ _ _ c.args.head _ _ c.requires.0 c.requires.1 ring.paired (omega (arith, h.olds, c.args.tallies.now.waits, ltb-true _ _ e))

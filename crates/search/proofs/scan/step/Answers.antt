@@ -1,18 +1,12 @@
 -- What is left of the proof of one step of the search.
-use Rattle.std.proofs.Common.{arith}
+use Rattle.std.proofs.Common.{◌+◌, arith}
 use Rattle.search.proofs.Steps.{sought_passed}
 use Rattle.search.proofs.scan.step.Goals as goal
 
-pub returns-then-k-at : goal.returns-then-k-at
-returns-then-k-at g c =
+pub returns : goal.returns
+returns g c =
     record {
-      on = omega arith;
-      within = c.worth-k.ensures.within;
-      sought = sought_passed _ _ c.args.at.next c.worth-k.result c.args.at.best c.worth-k.ensures.on c.requires.1.1 c.worth-k.ensures.passed;
+      on = c.after.ensures.on;
+      within = c.after.ensures.within;
+      sought = sought_passed _ _ (c.args.at.next + 1) c.after.result c.consider-best.result (omega (arith, c.after.ensures.on)) c.consider-best.ensures (λ j l h. c.after.ensures.passed j (omega arith) h);
     }
-
-pub consider-requires : goal.consider-requires
-consider-requires g c = (
-  omega arith,
-  sought_passed _ _ c.args.at.next c.worth-k.result c.args.at.best c.worth-k.ensures.on c.requires.1.1 c.worth-k.ensures.passed,
-)

@@ -1,0 +1,45 @@
+-- What is left of the proof that what is passed over is of no use.
+use Rattle.std.proofs.Common.{◌≡◌, ℕ, ◌+◌, ◌*◌, ◌%◌, ◌^◌, ◌<◌, ◌≤◌, length, refl, add-zero, arith}
+use lib.Count.{count_trailing_zeros}
+use Rattle.std.proofs.lemmas.Nat.{one_shl, pow_pos, mod_low}
+use Rattle.choices.proofs.Blocks.{zeros_multiple, block_within}
+use Rattle.search.proofs.Groups.{candidate}
+use Rattle.search.proofs.Useless.{pass_none, pass_some}
+use Rattle.search.proofs.ring.TalliesCriterion.after.Goals as goal
+use Rattle.search.proofs.ring.TalliesCriterion.after.Goals.{in-None, in-Some}
+
+-- a number and the zeros at its end are a block within the candidates
+block : (n k t : ℕ) → t ≤ count_trailing_zeros 64 k → t ≤ n → k < 2 ^ n → (k % 2 ^ t ≡ 0) × (k + 2 ^ t ≤ 2 ^ n)
+block n k t zeros free h =
+    let q = zeros_multiple 64 k t zeros in (
+      rw (q.1, ← add-zero (q.0 * 2 ^ t)) (mod_low q.0 t 0 (pow_pos t)),
+      rw q.1 (block_within q.0 t n free (rw q.1 at h)),
+    )
+
+pub tally-requires : goal.tally-requires
+tally-requires c =
+    let ring = c.args.self.now.ring in
+    candidate (length ring.weights.now) c.in-Some.b ring.few (omega (arith, c.requires.0, rw c.in-Some.is at c.requires.1))
+
+pub useless-requires : goal.useless-requires
+useless-requires c =
+    block (length c.args.self.now.ring.weights.now) c.args.k c.min-free.result (omega (arith, c.min-free.ensures)) (omega (arith, c.min-free.ensures)) c.requires.0
+
+pub returns-then-useless : goal.returns-then-useless
+returns-then-useless c =
+    let k = c.args.k in
+    let ring = c.args.self.now.ring in
+    let t = c.min-free.result in
+    let n = length ring.weights.now in
+    let shift : (1 * 2 ^ t) % 18446744073709551616 ≡ 2 ^ t = one_shl t 64 (omega (arith, ring.few, c.min-free.ensures)) in
+    let b = block n k t (omega (arith, c.min-free.ensures)) (omega (arith, c.min-free.ensures)) c.requires.0 in
+    record {
+      on = omega (arith, shift, pow_pos t);
+      within = rw shift b.1;
+      passed = λ j l h.
+          let over = c.if-useless.ensures refl j l (omega (arith, shift, h)) in
+          elim c.match-best.branch [
+            | in-None w ↦ rw w.in-None.is (pass_none ring.rule ring.weights.now ring.ages.now c.match-best.most j w.most-is over)
+            | in-Some w ↦ rw w.in-Some.is (λ f. pass_some ring.rule ring.weights.now ring.ages.now c.match-best.most j w.in-Some.b (omega (arith, w.most-is, w.tally.ensures.weighs)) (over f))
+          ];
+    }

@@ -1,0 +1,59 @@
+// A ring with the tallies of its choices at hand, so that a look at any choice takes the same few steps.
+ghost use Rattle.std.specs.Prelude.{◌≡◌, ℕ, ◌^◌, ◌<◌, length, slice_index_or};
+ghost use Rattle.choices.specs.Choice.{opened, weight_of};
+ghost use Rattle.choices.specs.Numbered.{choice_of};
+ghost use Rattle.choices.specs.Tallied.{Tallied, empty_ones, old_ones, waiting_of};
+ghost use Rattle.search.specs.Groups.{nothing, part as part_at};
+
+use choices::{Ring, Tally, look, waiting};
+
+// The pans stand in four groups of six, the last pans first, and there are 64 choices of each group.
+#[derive(Clone, Copy)]
+pub struct Tallies<'a> {
+    pub ring: Ring<'a>,
+    // How many pans have waited too long.
+    pub waiting: u32,
+    groups: [Tally; 256],
+    ghost waits: { waiting ≡ waiting_of ring.rule.age ring.ages.now },
+    ghost weighs: { (i : ℕ) → i < 256 → (slice_index_or groups i nothing).weight ≡ weight_of ring.weights.now (choice_of (length ring.weights.now) (part_at i)) },
+    ghost counts: { (i : ℕ) → i < 256 → (slice_index_or groups i nothing).pans ≡ opened (choice_of (length ring.weights.now) (part_at i)) },
+    ghost empties: { (i : ℕ) → i < 256 → (slice_index_or groups i nothing).empty ≡ weight_of (empty_ones ring.weights.now) (choice_of (length ring.weights.now) (part_at i)) },
+    ghost olds: { (i : ℕ) → i < 256 → (slice_index_or groups i nothing).old ≡ weight_of (old_ones ring.rule.age ring.ages.now) (choice_of (length ring.weights.now) (part_at i)) },
+}
+
+// The choice whose tally is an entry.
+fn part(i: usize) -> u32
+    requires { i < 256 }
+    ensures { result ≡ part_at i }
+{
+    ((i % 64) as u32) << (6 * (i / 64))
+}
+
+impl<'a> Tallies<'a> {
+    // Each entry is the tally of its choice, as one look over the pans tells it.
+    pub fn of(ring: Ring<'a>) -> Tallies<'a>
+        ensures { result.ring ≡ ring.entry }
+    {
+        let mut groups = [Tally::default(); 256];
+        for (i, group) in groups.iter_mut().enumerate() {
+            *group = look(ring, part(i));
+        }
+        Tallies {
+            ring,
+            waiting: waiting(ring),
+            groups,
+        }
+    }
+
+    // The tally of a choice: those of what it opens in each group, added up.
+    pub fn tally(&self, choice: u64) -> Tally
+        requires { choice < 2 ^ 24 }
+        ensures { Tallied self.now.ring.weights.now self.now.ring.ages.now self.now.ring.rule.age (choice_of (length self.now.ring.weights.now) choice) result }
+    {
+        let first = self.groups[(choice % 64) as usize];
+        let second = self.groups[(choice / 64 % 64 + 64) as usize];
+        let third = self.groups[(choice / 4096 % 64 + 128) as usize];
+        let fourth = self.groups[(choice / 262_144 + 192) as usize];
+        fourth.and(third.and(second.and(first)))
+    }
+}
