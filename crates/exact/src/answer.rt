@@ -26,7 +26,7 @@ pub fn best(ring: Ring, room: &mut [u8]) -> Option<Bag>
     if 4 * heaviest(free, left) < left || room.len() < 2 * wide {
         return None;
     }
-    let (ones, pairs) = room.split_at_mut(wide);
+    let (ones, pairs) = room[..2 * wide].split_at_mut(wide);
     let more = few(free, left, rule.pans - held.pans, ones, pairs)?;
     Some(Bag {
         pans: held.number + more,
