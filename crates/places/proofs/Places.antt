@@ -1,5 +1,5 @@
 -- Laws of places: what a place is made of, its bounds, and that the order of choices is the order of their places.
-use Rattle.std.proofs.Common.{◌≡◌, ℕ, suc, ◌+◌, ◌*◌, ◌/◌, ◌%◌, ◌^◌, ◌<◌, ◌≤◌, true, false, cond, ◌&&◌, ◌||◌, eqb, ltb, List, [], ◌∷◌, length, get_or, sym, refl, ap, ◌∙◌, add-mul, arith, pow_mono}
+use Rattle.std.proofs.Common.{◌≡◌, ℕ, suc, ◌+◌, ◌*◌, ◌/◌, ◌%◌, ◌^◌, ◌<◌, ◌≤◌, true, false, cond, ◌&&◌, ◌||◌, eqb, ltb, List, [], ◌∷◌, length, get_or, sym, refl, ap, ◌∙◌, arith, pow_mono}
 use native.Mathlib.Nat.{pow-succ'}
 use Rattle.std.proofs.lemmas.Bool.Decides.{nat_tests}
 use Rattle.std.proofs.lemmas.Nat.{pow_pos, pow_below}
@@ -96,10 +96,3 @@ place_says ws cs few e =
     let c : 2 ^ length cs ≡ 2 ^ length ws = ap (λ (n : ℕ). 2 ^ n) e in
     let p : 2 ^ length ws ≤ 2 ^ 24 = pow_mono few in
     rw (place_is 0 ws cs e) (digits (weight_of ws cs) (opened cs) (shut 0 cs) (omega (arith, opened_le cs)) (omega (arith, shut_code cs)))
-
--- no choice weighs more than as many of the heaviest
-pub weight_le : (m : ℕ) (ws : List ℕ) (cs : Choice) → ((i : ℕ) → get_or ws i 0 ≤ m) → weight_of ws cs ≤ opened cs * m
-weight_le m [] cs heavy = omega arith
-weight_le m (w ∷ ws) [] heavy = omega arith
-weight_le m (w ∷ ws) (true ∷ cs) heavy = omega (arith, heavy 0, weight_le m ws cs (λ i. heavy (suc i)), add-mul 1 (opened cs) m)
-weight_le m (w ∷ ws) (false ∷ cs) heavy = omega (arith, weight_le m ws cs (λ i. heavy (suc i)), add-mul 0 (opened cs) m)
