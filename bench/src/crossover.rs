@@ -42,7 +42,7 @@ fn by_pans(rooms: &mut Rooms, ticks: &Ticks, x: &mut Random) {
     println!("| pans | entries of both halves | target an 8th of everything | a 6th | a 4th | a 3rd | half |");
     println!("|---|---|---|---|---|---|---|");
     for pans in [8, 12, 16, 20, 22, 24usize] {
-        let entries = (1usize << (pans / 2)) + (1usize << (pans - pans / 2));
+        let entries = 2usize << ((pans - 1) / 2);
         let cells = [8, 6, 4, 3, 2].map(|share| match crossing(pans, share, rooms, ticks, x) {
             Some(bytes) => format!("{bytes} ({:.0})", bytes as f64 / entries as f64),
             None => "none".into(),

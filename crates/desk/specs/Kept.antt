@@ -27,4 +27,4 @@ pub record Fresh (d : Desk) : Type 0 where
   pub pans : vec_items d.pans ≡ []
   pub ages : vec_items d.ages ≡ []
   pub handfuls : vec_items d.handfuls ≡ []
-  pub room : vec_len d.entries ≡ 8192
+  pub room : vec_len d.entries ≡ 4096

@@ -1,137 +1,182 @@
--- A choice of all pans is a choice of each half: its place, its count and its ways come together.
-use Rattle.std.proofs.Common.{◌≡◌, ℕ, ◌+◌, ◌*◌, ◌^◌, ◌<◌, ◌≤◌, true, false, cond, List, [], ◌∷◌, ◌++◌, length, get_or, refl, ap, ◌∙◌, ⊎_elim, add-mul, arith, pow_mono}
-use Rattle.std.proofs.lemmas.Bool.{and_parts, and_from, both_ways, cases_lt}
-use Rattle.std.proofs.lemmas.Nat.{mul-le}
-use Rattle.std.proofs.lemmas.List.{length-append}
+-- The three parts of the pans and what is found among their entries.
+use Rattle.std.proofs.Common.{◌≡◌, ℕ, ◌+◌, ◌-◌, ◌*◌, ◌/◌, ◌^◌, ◌<◌, ◌≤◌, true, List, ◌++◌, length, get_or, drop, sym, ap, ◌∙◌, ⊎_elim, arith}
+use Rattle.std.proofs.lemmas.Bool.{cases_lt}
+use Rattle.std.proofs.lemmas.List.{length-take, length-drop, length-append, drop-drop, take_at, drop_at, take_all}
 use Rattle.choices.specs.Choice.{Choice, weight_of, opened}
-use Rattle.choices.proofs.Choices.{weight_le}
 use Rattle.places.specs.Place.{by_ways, place, pans_in}
-use Rattle.growth.specs.Entries.{Holds}
-use Rattle.halves.specs.Half.{Half, Worth}
-use Rattle.halves.specs.declared.bounds.Bounds.{Bounds}
-use Rattle.sweeps.specs.Sweep.{ApartPairs, Few, Pair, LeastSum}
-use Rattle.halves.specs.Next.{Allowed, First}
 use Rattle.places.specs.declared.way.Way.{Way}
-use Rattle.places.proofs.Places.{length_by_ways, in_place, place_says}
+use Rattle.places.proofs.Places.{length_by_ways, place_says, place_below}
+use Rattle.growth.specs.Entries.{Holds}
+use Rattle.sieves.specs.Sieve.{part}
+use Rattle.sieves.specs.declared.bounds.Bounds.{Bounds}
+use Rattle.sieves.proofs.Parts.{opened_cut}
+use Rattle.sweeps.specs.Sweep.{Apart, LeastOf, Together, Triple}
+use Rattle.halves.specs.Half.{Half, Wanted}
+use Rattle.halves.specs.Next.{Allowed, First}
+use Rattle.halves.proofs.Cutting.{by_ways_uncut, pans_part, part_long, place_part, back_all}
+use Rattle.halves.proofs.Placed.{heavy_take, heavy_drop}
 
-pub by_ways_join : (us vs : List Way) (cs ds : Choice) → by_ways us cs ≡ true → by_ways vs ds ≡ true → by_ways (us ++ vs) (cs ++ ds) ≡ true
-by_ways_join [] vs [] ds a b = b
-by_ways_join [] vs (c ∷ cs) ds a b = absurd (both_ways false refl a)
-by_ways_join (u ∷ us) vs [] ds a b = absurd (both_ways false refl a)
-by_ways_join (u ∷ us) vs (c ∷ cs) ds a b = let h = and_parts (cond c u.opens u.stays) (by_ways us cs) a in and_from _ _ h.0 (by_ways_join us vs cs ds h.1 b)
+-- a choice of each part
+pub record Parts (us fs bs : Choice) (t h : ℕ) : Type 0 where
+  pub tops : length us ≡ t
+  pub front : length fs ≡ h
+  pub back : length bs ≡ h
 
--- the part of a choice in each half
-pub record Parted (us vs : List Way) (es : Choice) : Type 0 where
-  pub front : Choice
-  pub back : Choice
-  pub whole : es ≡ front ++ back
-  pub front_ways : by_ways us front ≡ true
-  pub back_ways : by_ways vs back ≡ true
+-- together they are a choice of all, whose parts they are
+module _ (us fs bs : Choice) (t h : ℕ) (p : Parts us fs bs t h) where
+  whole : Choice
+  whole = us ++ (fs ++ bs)
 
-pub parted : (us vs : List Way) (es : Choice) → by_ways (us ++ vs) es ≡ true → Parted us vs es
-parted [] vs es h = record { front = []; back = es; whole = refl; front_ways = refl; back_ways = h }
-parted (u ∷ us) vs [] h = absurd (both_ways false refl h)
-parted (u ∷ us) vs (e ∷ es) h =
-    let k = and_parts (cond e u.opens u.stays) (by_ways (us ++ vs) es) h in
-    let p = parted us vs es k.1 in
-    record { front = e ∷ p.front; back = p.back; whole = ap (λ (x : Choice). e ∷ x) p.whole; front_ways = and_from _ _ k.0 p.front_ways; back_ways = p.back_ways }
+  pub whole_long : length (us ++ (fs ++ bs)) ≡ t + (h + h)
+  whole_long = omega (arith, length-append us (fs ++ bs), length-append fs bs, p.tops, p.front, p.back)
 
-pub opened_join : (cs ds : Choice) → opened (cs ++ ds) ≡ opened cs + opened ds
-opened_join [] ds = omega arith
-opened_join (c ∷ cs) ds = omega (arith, opened_join cs ds)
+  pub whole_tops : part 0 t (us ++ (fs ++ bs)) ≡ us
+  whole_tops = take_at us (fs ++ bs) t p.tops
 
-pub place_join : (us ws : List ℕ) (cs ds : Choice) → length cs ≡ length us → length ds ≡ length ws → place 0 (us ++ ws) (cs ++ ds) ≡ place (length ws) us cs + place 0 ws ds
-place_join [] ws [] ds a b = omega arith
-place_join [] ws (c ∷ cs) ds a b = absurd (omega arith)
-place_join (u ∷ us) ws [] ds a b = absurd (omega arith)
-place_join (u ∷ us) ws (true ∷ cs) ds a b = omega (arith, place_join us ws cs ds (omega arith) b)
-place_join (u ∷ us) ws (false ∷ cs) ds a b =
-    let e : 2 ^ (0 + length (cs ++ ds)) ≡ 2 ^ (length ws + length cs) = ap (λ (m : ℕ). 2 ^ m) (omega (arith, length-append cs ds)) in
-    omega (arith, place_join us ws cs ds (omega arith) b)
+  rest : drop t (us ++ (fs ++ bs)) ≡ fs ++ bs
+  rest = drop_at us (fs ++ bs) t p.tops
 
-pub weight_join : (us ws : List ℕ) (cs ds : Choice) → length cs ≡ length us → weight_of (us ++ ws) (cs ++ ds) ≡ weight_of us cs + weight_of ws ds
-weight_join [] ws [] ds e = omega arith
-weight_join [] ws (c ∷ cs) ds e = absurd (omega arith)
-weight_join (u ∷ us) ws [] ds e = absurd (omega arith)
-weight_join (u ∷ us) ws (c ∷ cs) ds e = omega (arith, weight_join us ws cs ds (omega arith))
+  pub whole_front : part t h (us ++ (fs ++ bs)) ≡ fs
+  whole_front = rw rest (take_at fs bs h p.front)
 
--- both halves in order, whole
-module _ (us ws : List ℕ) (ups vs : List Way) (lim : Bounds) (fs bs : List ℕ) (front_paired : length ups ≡ length us) (back_paired : length vs ≡ length ws) (few : length us + length ws ≤ 24) (front_heavy : (i : ℕ) → get_or us i 0 ≤ lim.heaviest) (back_heavy : (i : ℕ) → get_or ws i 0 ≤ lim.heaviest) (front : Half (length ws) 0 lim us ups fs (length fs)) (back : Half 0 0 lim ws vs bs (length bs)) where
-  front_pans : (cs : Choice) → by_ways ups cs ≡ true → pans_in (place (length ws) us cs + 0) ≡ opened cs
-  front_pans cs h =
-      let k : 2 ^ (length ws + length us) ≤ 2 ^ 24 = pow_mono {j = 24} (omega arith) in
-      (in_place (length ws) 0 us cs (length_by_ways ups cs h ∙ front_paired) (omega arith) (omega arith)).1
+  last : drop (t + h) (us ++ (fs ++ bs)) ≡ bs
+  last = sym (drop-drop h t (us ++ (fs ++ bs))) ∙ rw rest (drop_at fs bs h p.front)
 
-  back_pans : (ds : Choice) → by_ways vs ds ≡ true → pans_in (place 0 ws ds + 0) ≡ opened ds
-  back_pans ds h =
-      let k : 2 ^ (0 + length ws) ≤ 2 ^ 24 = pow_mono {j = 24} (omega arith) in
-      (in_place 0 0 ws ds (length_by_ways vs ds h ∙ back_paired) (omega arith) (omega arith)).1
+  pub whole_back : part (t + h) h (us ++ (fs ++ bs)) ≡ bs
+  whole_back = rw last (take_all h bs (omega (arith, p.back)))
 
-  pub counts_apart : ApartPairs fs bs
-  counts_apart p q a b =
-      let f : (cs : Choice) × (by_ways ups cs ≡ true) × (place (length ws) us cs + 0 ≡ get_or fs p 0) = front.only p a in
-      let g : (ds : Choice) × (by_ways vs ds ≡ true) × (place 0 ws ds + 0 ≡ get_or bs q 0) = back.only q b in
-      let fl : length f.0 ≡ length us = length_by_ways ups f.0 f.1 ∙ front_paired in
-      let gl : length g.0 ≡ length ws = length_by_ways vs g.0 g.1 ∙ back_paired in
-      let sum : get_or fs p 0 + get_or bs q 0 ≡ place 0 (us ++ ws) (f.0 ++ g.0) = omega (arith, f.2, g.2, place_join us ws f.0 g.0 fl gl) in
-      let whole : pans_in (place 0 (us ++ ws) (f.0 ++ g.0)) ≡ opened (f.0 ++ g.0) =
-      (place_says (us ++ ws) (f.0 ++ g.0) (omega (arith, length-append us ws)) (omega (arith, length-append us ws, length-append f.0 g.0))).1 in
-      omega (arith, ap pans_in sum, whole, opened_join f.0 g.0, ap pans_in f.2, ap pans_in g.2, front_pans f.0 f.1, back_pans g.0 g.1)
+pub by_ways_three :
+    (vs : List Way) (cs : Choice) (t h : ℕ) → length vs ≡ t + (h + h) → length cs ≡ t + (h + h) →
+    by_ways (part 0 t vs) (part 0 t cs) ≡ true → by_ways (part t h vs) (part t h cs) ≡ true → by_ways (part (t + h) h vs) (part (t + h) h cs) ≡ true → by_ways vs cs ≡ true
+by_ways_three vs cs t h e f a b c =
+    let d : by_ways (drop h (drop t vs)) (drop h (drop t cs)) ≡ true = rw (drop-drop h t vs, drop-drop h t cs) (rw (back_all t h vs e, back_all t h cs f) at c) in
+    by_ways_uncut t vs cs a (by_ways_uncut h (drop t vs) (drop t cs) b d)
 
-  pub least_of : (from x : ℕ) → lim.least * 2 ^ 29 ≤ from → LeastSum (Few lim.limit) fs bs from lim.to x → (es : Choice) → Allowed lim.limit (us ++ ws) (ups ++ vs) from es → x ≤ place 0 (us ++ ws) es
-  least_of from x far h es a = ⊎_elim below (λ l. omega (arith, h.high)) (cases_lt (place 0 (us ++ ws) es) lim.to)
-    where
-      p : Parted ups vs es
-      p = parted ups vs es a.ways
+pub opened_three : (cs : Choice) (t h : ℕ) → length cs ≡ t + (h + h) → opened cs ≡ opened (part 0 t cs) + (opened (part t h cs) + opened (part (t + h) h cs))
+opened_three cs t h e = omega (arith, opened_cut t cs, opened_cut h (drop t cs), ap opened (drop-drop h t cs), ap opened (back_all t h cs e))
 
-      joined : place 0 (us ++ ws) es ≡ place (length ws) us p.front + place 0 ws p.back
-      joined = ap (place 0 (us ++ ws)) p.whole ∙ place_join us ws p.front p.back (length_by_ways ups _ p.front_ways ∙ front_paired) (length_by_ways vs _ p.back_ways ∙ back_paired)
+-- an entry of a part is some choice's
+pub record Entry (ws : List ℕ) (vs : List Way) (skip len x : ℕ) : Type 0 where
+  pub choice : Choice
+  pub ways : by_ways (part skip len vs) choice ≡ true
+  pub at : place (length ws - (skip + len)) (part skip len ws) choice ≡ x
+  pub long : length choice ≡ len
+  pub pans : pans_in x ≡ opened choice
+  pub low : x < 2 ^ 62
 
-      weighs : lim.least ≤ weight_of us p.front + weight_of ws p.back
-      weighs =
-          let e = (place_says (us ++ ws) es (omega (arith, length-append us ws)) (length_by_ways (ups ++ vs) es a.ways ∙ omega (arith, length-append us ws, length-append ups vs))).0 in
-          omega (arith, e, a.enough, ap (weight_of (us ++ ws)) p.whole, weight_join us ws p.front p.back (length_by_ways ups _ p.front_ways ∙ front_paired))
-
-      counted : opened p.front + opened p.back ≤ lim.limit
-      counted = omega (arith, a.few, ap opened p.whole, opened_join p.front p.back)
-
-      times : (opened p.front + opened p.back) * lim.heaviest ≤ lim.limit * lim.heaviest
-      times = mul-le _ _ _ _ counted (omega arith)
-
-      front_worth : Worth lim us p.front
-      front_worth = record { few = omega (arith, counted); reach = omega (arith, weighs, times, weight_le lim.heaviest ws p.back back_heavy, add-mul (opened p.front) (opened p.back) lim.heaviest) }
-
-      back_worth : Worth lim ws p.back
-      back_worth = record { few = omega (arith, counted); reach = omega (arith, weighs, times, weight_le lim.heaviest us p.front front_heavy, add-mul (opened p.front) (opened p.back) lim.heaviest) }
-
-      below : place 0 (us ++ ws) es < lim.to → x ≤ place 0 (us ++ ws) es
-      below l =
-          let f : Holds fs (length fs) (place (length ws) us p.front + 0) = front.every p.front p.front_ways front_worth (omega (arith, joined)) in
-          let b : Holds bs (length bs) (place 0 ws p.back + 0) = back.every p.back p.back_ways back_worth (omega (arith, joined)) in
-          omega (arith, joined, f.2, b.2, h.least f.0 b.0 f.1 b.1 (omega (arith, counted, ap pans_in f.2, ap pans_in b.2, front_pans _ p.front_ways, back_pans _ p.back_ways)) (omega (arith, joined, f.2, b.2, a.enough)))
-
-  pub first_of : (from x : ℕ) → lim.least * 2 ^ 29 ≤ from → x < lim.to → LeastSum (Few lim.limit) fs bs from lim.to x → First lim.limit (us ++ ws) (ups ++ vs) from lim.to x
-  first_of from x far l h =
+module _ (lim : Bounds) (ws : List ℕ) (vs : List Way) (few : length ws ≤ 24) (paired : length vs ≡ length ws) (light : (i : ℕ) → get_or ws i 0 ≤ 1000000) where
+  pub entry : (skip len : ℕ) (es : List ℕ) (n : ℕ) → skip + len ≤ length ws → Half lim ws vs skip len es n → (q : ℕ) → q < n → Entry ws vs skip len (get_or es q 0)
+  entry skip len es n within h q l =
+      let x = h.only q l in
+      let weights : length (part skip len ws) ≡ len = omega (arith, length-take len (drop skip ws), length-drop skip ws) in
+      let ways : length (part skip len vs) ≡ len = omega (arith, length-take len (drop skip vs), length-drop skip vs) in
+      let long : length x.0 ≡ len = length_by_ways (part skip len vs) x.0 x.1 ∙ ways in
+      let b = length ws - (skip + len) in
+      let all : b + length (part skip len ws) ≤ 24 = omega arith in
       record {
-        choice = f.0 ++ b.0;
-        allowed = record {
-          ways = by_ways_join ups vs f.0 b.0 f.1 b.1;
-          few = omega (arith, opened_join f.0 b.0, pair.right, ap pans_in f.2, ap pans_in b.2, front_pans _ f.1, back_pans _ b.1);
-          enough = omega (arith, joined, pair.enough);
-        };
-        at = joined;
-        below = l;
-        least = least_of from x far h;
+        choice = x.0;
+        ways = x.1;
+        at = x.2;
+        long = long;
+        pans = ap pans_in (sym x.2) ∙ pans_part b (part skip len ws) x.0 (long ∙ sym weights) all;
+        low = omega (arith, x.2, place_below b (part skip len ws) x.0 (heavy_take 1000000 len (drop skip ws) (heavy_drop 1000000 skip ws light)) all (long ∙ sym weights));
       }
-    where
-      pair : Pair (Few lim.limit) fs bs from x
-      pair = h.found l
 
-      f : (cs : Choice) × (by_ways ups cs ≡ true) × (place (length ws) us cs + 0 ≡ get_or fs pair.p 0)
-      f = front.only pair.p pair.front
+  pub half_low : (skip len : ℕ) (es : List ℕ) (n : ℕ) → skip + len ≤ length ws → Half lim ws vs skip len es n → (q : ℕ) → q < n → get_or es q 0 < 2 ^ 62
+  half_low skip len es n within h q l = (entry skip len es n within h q l).low
 
-      b : (cs : Choice) × (by_ways vs cs ≡ true) × (place 0 ws cs + 0 ≡ get_or bs pair.q 0)
-      b = back.only pair.q pair.back
+-- the three parts, whole
+module _
+    (lim : Bounds) (ws : List ℕ) (vs : List Way) (few : length ws ≤ 24) (paired : length vs ≡ length ws) (light : (i : ℕ) → get_or ws i 0 ≤ 1000000) (t h : ℕ) (three : length ws ≡ t + (h + h)) (ts fs bs : List ℕ)
+    (tops : Half lim ws vs 0 t ts (length ts)) (front : Half lim ws vs t h fs (length fs)) (back : Half lim ws vs (t + h) h bs (length bs))
+  where
+    top_entry : (i : ℕ) → i < length ts → Entry ws vs 0 t (get_or ts i 0)
+    top_entry = entry lim ws vs few paired light 0 t ts (length ts) (omega arith) tops
 
-      joined : place 0 (us ++ ws) (f.0 ++ b.0) ≡ x
-      joined = place_join us ws f.0 b.0 (length_by_ways ups _ f.1 ∙ front_paired) (length_by_ways vs _ b.1 ∙ back_paired) ∙ omega (arith, f.2, b.2, pair.adds)
+    front_entry : (p : ℕ) → p < length fs → Entry ws vs t h (get_or fs p 0)
+    front_entry = entry lim ws vs few paired light t h fs (length fs) (omega arith) front
+
+    back_entry : (q : ℕ) → q < length bs → Entry ws vs (t + h) h (get_or bs q 0)
+    back_entry = entry lim ws vs few paired light (t + h) h bs (length bs) (omega arith) back
+
+    pub tops_low : (i : ℕ) → i < length ts → get_or ts i 0 < 2 ^ 62
+    tops_low i l = (top_entry i l).low
+
+    place_three :
+        (cs : Choice) → length cs ≡ length ws →
+        place 0 ws cs ≡ place (length ws - (0 + t)) (part 0 t ws) (part 0 t cs) + (place (length ws - (t + h)) (part t h ws) (part t h cs) + place (length ws - (t + h + h)) (part (t + h) h ws) (part (t + h) h cs))
+    place_three cs e =
+        let p = place_part ws cs e t h in
+        let a : 0 + t ≡ t = omega arith in
+        let b : length ws - (t + h + h) ≡ 0 = omega arith in
+        rw (a, b, back_all t h ws three, back_all t h cs (e ∙ three)) (omega (arith, p.0, p.1))
+
+    -- an entry of each part make a choice
+    record Joined (i p q : ℕ) : Type 0 where
+      choice : Choice
+      ways : by_ways vs choice ≡ true
+      at : place 0 ws choice ≡ get_or ts i 0 + (get_or fs p 0 + get_or bs q 0)
+      count : opened choice ≡ pans_in (get_or ts i 0) + (pans_in (get_or bs q 0) + pans_in (get_or fs p 0))
+      long : length choice ≡ length ws
+
+    joined : (i p q : ℕ) → i < length ts → p < length fs → q < length bs → Joined i p q
+    joined i p q a b c =
+        let x = top_entry i a in
+        let y = front_entry p b in
+        let z = back_entry q c in
+        let parts : Parts x.choice y.choice z.choice t h = record { tops = x.long; front = y.long; back = z.long } in
+        let cs = x.choice ++ (y.choice ++ z.choice) in
+        let long : length cs ≡ t + (h + h) = whole_long x.choice y.choice z.choice t h parts in
+        let tp : part 0 t cs ≡ x.choice = whole_tops x.choice y.choice z.choice t h parts in
+        let fp : part t h cs ≡ y.choice = whole_front x.choice y.choice z.choice t h parts in
+        let bp : part (t + h) h cs ≡ z.choice = whole_back x.choice y.choice z.choice t h parts in
+        record {
+          choice = cs;
+          ways = by_ways_three vs cs t h (paired ∙ three) long (rw tp x.ways) (rw fp y.ways) (rw bp z.ways);
+          at = place_three cs (long ∙ sym three) ∙ rw (tp, fp, bp) (omega (arith, x.at, y.at, z.at));
+          count = opened_three cs t h long ∙ rw (tp, fp, bp) (omega (arith, x.pans, y.pans, z.pans));
+          long = long ∙ sym three;
+        }
+
+    pub apart : Apart ts fs bs
+    apart i p q a b c =
+        let j = joined i p q a b c in
+        ap pans_in (sym j.at) ∙ ((place_says ws j.choice few j.long).1 ∙ j.count)
+
+    pub least_of : (from x : ℕ) → lim.least * 2 ^ 29 ≤ from → LeastOf (Together lim.limit) (length ts) ts fs bs from lim.to x → (es : Choice) → Allowed lim.limit ws vs from es → x ≤ place 0 ws es
+    least_of from x far g es a = ⊎_elim below (λ l. omega (arith, g.high)) (cases_lt (place 0 ws es) lim.to)
+      where
+        long : length es ≡ length ws
+        long = length_by_ways vs es a.ways ∙ paired
+
+        says : place 0 ws es / 2 ^ 29 ≡ weight_of ws es
+        says = (place_says ws es few long).0
+
+        wanted : place 0 ws es < lim.to → Wanted lim ws vs es
+        wanted l = record { ways = a.ways; bounded = record { whole = long; few = a.few; enough = omega (arith, says, a.enough) }; below = l }
+
+        pans : (skip len x : ℕ) → skip + len ≤ length ws → place (length ws - (skip + len)) (part skip len ws) (part skip len es) ≡ x → pans_in x ≡ opened (part skip len es)
+        pans skip len x within e =
+            ap pans_in (sym e) ∙ pans_part (length ws - (skip + len)) (part skip len ws) (part skip len es) (part_long ws es long skip len) (omega (arith, length-take len (drop skip ws), length-drop skip ws))
+
+        below : place 0 ws es < lim.to → x ≤ place 0 ws es
+        below l =
+            let u : Holds ts (length ts) (place (length ws - (0 + t)) (part 0 t ws) (part 0 t es)) = tops.every es (wanted l) in
+            let v : Holds fs (length fs) (place (length ws - (t + h)) (part t h ws) (part t h es)) = front.every es (wanted l) in
+            let w : Holds bs (length bs) (place (length ws - (t + h + h)) (part (t + h) h ws) (part (t + h) h es)) = back.every es (wanted l) in
+            let sum : place 0 ws es ≡ get_or ts u.0 0 + (get_or fs v.0 0 + get_or bs w.0 0) = omega (arith, place_three es long, u.2, v.2, w.2) in
+            let together : Together lim.limit (get_or ts u.0 0) (get_or bs w.0 0) (get_or fs v.0 0) =
+            omega (arith, a.few, opened_three es t h (long ∙ three), pans 0 t _ (omega arith) (sym u.2), pans t h _ (omega arith) (sym v.2), pans (t + h) h _ (omega arith) (sym w.2)) in
+            omega (arith, sum, g.least u.0 v.0 w.0 u.1 v.1 w.1 together (omega (arith, sum, a.enough)))
+
+    pub first_of : (from x : ℕ) → lim.least * 2 ^ 29 ≤ from → x < lim.to → LeastOf (Together lim.limit) (length ts) ts fs bs from lim.to x → First lim.limit ws vs from lim.to x
+    first_of from x far l g =
+        let v : Triple (Together lim.limit) (length ts) ts fs bs from x = g.found l in
+        let j = joined v.t v.p v.q v.top v.front v.back in
+        record {
+          choice = j.choice;
+          allowed = record { ways = j.ways; few = omega (arith, j.count, v.right); enough = omega (arith, j.at, v.adds, v.enough) };
+          at = omega (arith, j.at, v.adds);
+          below = l;
+          least = least_of from x far g;
+        }

@@ -1,6 +1,6 @@
 -- The lemmas that several proofs share, here and in the crates above.
 mod Answered
-mod ByPan
+mod Asking
+mod Cutting
 mod Joining
-mod Rooms
-mod Sieving
+mod Placed

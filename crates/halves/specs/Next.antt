@@ -1,22 +1,30 @@
--- Two halves in a room, and the next choice among them. Assumes nothing: these are definitions.
---   room_for     how many entries the halves of n pans take
---   Filled       the entries are those of the front half and of the back half, with no pan heavier than the heaviest
+-- Two halves and the pans before them, and the next choice among them. Assumes nothing: these are definitions.
+--   half_of      how many pans each half of n pans has: all but the first one or two
+--   room_for     how many entries both halves of n pans take
+--   before       how many pans stand before the halves
+--   Filled       the entries are those of the pans before the halves, of the front half and of the back half
 --   Allowed      a choice by the ways, of at most so many pans, from a place on
 --   Next         the first place from `from` on, below `to`, of an allowed choice; or that there is none
-use Rattle.std.specs.Prelude.{◌≡◌, ℕ, ◌+◌, ◌-◌, ◌/◌, ◌^◌, ◌<◌, ◌≤◌, true, List, length, take, drop, Some, None, Option, slice_index}
+use Rattle.std.specs.Prelude.{◌≡◌, ℕ, ◌+◌, ◌-◌, ◌/◌, ◌^◌, ◌<◌, ◌≤◌, true, List, length, Some, None, Option}
 use Rattle.choices.specs.Choice.{Choice, opened}
 use Rattle.places.specs.Place.{by_ways, place}
 use Rattle.halves.specs.Half.{Half}
 use Rattle.places.specs.declared.way.Way.{Way}
 use Rattle.halves.specs.declared.filled.Halves.{Halves}
 
+abbrev pub half_of : ℕ → ℕ
+half_of n = (n - 1) / 2
+
 abbrev pub room_for : ℕ → ℕ
-room_for n = 2 ^ (n / 2) + 2 ^ (n - n / 2)
+room_for n = 2 ^ half_of n + 2 ^ half_of n
+
+abbrev pub before : ℕ → ℕ
+before n = n - (half_of n + half_of n)
 
 pub record Filled (ws : List ℕ) (vs : List Way) (s : Halves) : Type 0 where
-  pub heavy : (i : ℕ) → slice_index ws i ≤ s.bounds.heaviest
-  pub front : Half (length ws - length ws / 2) 0 s.bounds (take (length ws / 2) ws) (take (length ws / 2) vs) s.lists.front.now (length s.lists.front.now)
-  pub back : Half 0 0 s.bounds (drop (length ws / 2) ws) (drop (length ws / 2) vs) s.lists.back.now (length s.lists.back.now)
+  pub tops : Half s.bounds ws vs 0 (before (length ws)) s.tops s.top
+  pub front : Half s.bounds ws vs (before (length ws)) (half_of (length ws)) s.lists.front.now (length s.lists.front.now)
+  pub back : Half s.bounds ws vs (before (length ws) + half_of (length ws)) (half_of (length ws)) s.lists.back.now (length s.lists.back.now)
 
 pub record Allowed (limit : ℕ) (ws : List ℕ) (vs : List Way) (from : ℕ) (cs : Choice) : Type 0 where
   pub ways : by_ways vs cs ≡ true

@@ -1,54 +1,70 @@
-// The two halves in a lent room: filled once, and asked for the next choice from any place on.
-ghost use Rattle.std.specs.Prelude.{◌≡◌, ℕ, ◌*◌, ◌/◌, ◌^◌, ◌≤◌, length, slice_index};
-ghost use Rattle.halves.specs.Next.{Filled, Next, room_for};
+// The two halves in a lent room, and the pans before them: filled once, and asked for the next choice from any place on.
+ghost use Rattle.std.specs.Prelude.{◌≡◌, ℕ, ◌+◌, ◌-◌, ◌*◌, ◌^◌, ◌≤◌, length};
+ghost use Rattle.growth.specs.Part.{Part};
+ghost use Rattle.halves.specs.Half.{Half};
+ghost use Rattle.halves.specs.Next.{Filled, Next, before, half_of, room_for};
+ghost use Rattle.sieves.specs.Sieve.{part as part_of};
 
-use crate::bounds::Bounds;
 use crate::filled::Halves;
-use crate::half::half;
+use crate::rooms::{entries, half_of};
+use growth::part;
+use pairs::both;
 use places::Pans;
+use sieves::{Bounds, Span, thin};
 use sweeps::{Lists, least};
 
-// Room for 24 pans, which is the most that a ring has.
-pub const ROOM: usize = 8192;
-
-// Where the room of the front half ends and that of the back half begins.
-fn cut(pans: usize) -> usize
-    requires { pans ≤ 25 }
-    ensures { result ≡ 2 ^ (pans / 2) }
+// The entries of the one or two pans before the halves; gives how many there are.
+fn topped(pans: Pans, half: usize, bounds: Bounds, tops: &mut [u64; 4]) -> usize
+    requires { half ≡ half_of (length pans.weights.now) }
+    ensures tops { Half bounds pans.entry.weights.now pans.entry.ways.now 0 (before (length pans.entry.weights.now)) tops.new result }
+    ensures few { result ≤ 4 }
 {
-    1 << (pans / 2)
+    let behind = half + half;
+    let len = pans.weights.len() - behind;
+    let (first, _) = pans.split_at(len);
+    let made = part(first, behind, bounds.to, tops);
+    let span = Span { pans, skip: 0, len };
+    thin(span, bounds, &mut tops[..made])
 }
 
-// How many entries the halves of so many pans take.
-pub fn room_for(pans: usize) -> usize
-    requires { pans ≤ 24 }
-    ensures value { result ≡ room_for pans }
-    ensures enough { result ≤ 8192 }
+// What is worth keeping of the entries of a half.
+fn kept<'a>(span: Span, bounds: Bounds, es: &'a mut [u64]) -> &'a [u64]
+    requires { Part (length span.pans.weights.now - (span.skip + span.len)) 0 bounds.to (part_of span.skip span.len span.pans.weights.now) (part_of span.skip span.len span.pans.ways.now) es.old (length es.old) }
+    ensures { Half bounds span.entry.pans.weights.now span.entry.pans.ways.now span.entry.skip span.entry.len result.now (length result.now) }
 {
-    cut(pans) + cut(pans + 1)
+    let n = thin(span, bounds, es);
+    &es[..n]
 }
 
-// The room for 24 pans, which is enough for every ring.
-pub fn full_room() -> usize
-    ensures value { result ≡ room_for 24 }
-    ensures enough { (n : ℕ) → n ≤ 24 → room_for n ≤ result }
+// The entries of both halves, each in a room of its own.
+fn halved<'a>(pans: Pans, half: usize, bounds: Bounds, room: &'a mut [u64]) -> Lists<'a>
+    requires half { half ≡ half_of (length pans.weights.now) }
+    requires room { room_for (length pans.weights.now) ≤ length room.old }
+    ensures front { Half bounds pans.entry.weights.now pans.entry.ways.now (before (length pans.entry.weights.now)) half result.front.now (length result.front.now) }
+    ensures back { Half bounds pans.entry.weights.now pans.entry.ways.now (before (length pans.entry.weights.now) + half) half result.back.now (length result.back.now) }
 {
-    ROOM
-}
-
-// What lies in the heaviest pan.
-fn heaviest(weights: &[u32]) -> u32
-    ensures most { (i : ℕ) → slice_index weights.now i ≤ result }
-    ensures among { (i : ℕ) × (slice_index weights.now i ≡ result) }
-{
-    let mut most = 0;
-    for w in weights {
-        most = most.max(*w);
+    let skip = pans.weights.len() - (half + half);
+    let (_, behind) = pans.split_at(skip);
+    let (first, last) = behind.split_at(half);
+    let (front_room, back_room) = room.split_at_mut(entries(half));
+    let made = both(first, last, bounds.to, front_room, back_room);
+    let one = Span {
+        pans,
+        skip,
+        len: half,
+    };
+    let other = Span {
+        pans,
+        skip: skip + half,
+        len: half,
+    };
+    Lists {
+        front: kept(one, bounds, &mut front_room[..made.front]),
+        back: kept(other, bounds, &mut back_room[..made.back]),
     }
-    most
 }
 
-// Fills both halves with what opens at most `limit` pans, weighs `least` or more and lies below `to`.
+// Fills the room with what opens at most `limit` pans, weighs `least` or more and lies below `to`.
 pub fn fill<'a>(pans: Pans, limit: u32, least: u32, to: u64, room: &'a mut [u64]) -> Halves<'a>
     requires { room_for (length pans.weights.now) ≤ length room.old }
     ensures filled { Filled pans.entry.weights.now pans.entry.ways.now result }
@@ -59,16 +75,18 @@ pub fn fill<'a>(pans: Pans, limit: u32, least: u32, to: u64, room: &'a mut [u64]
     let bounds = Bounds {
         limit: u64::from(limit),
         least: u64::from(least),
-        heaviest: u64::from(heaviest(pans.weights)),
         to,
     };
-    let count = pans.weights.len();
-    let (first, last) = pans.split_at(count / 2);
-    let (front_room, back_room) = room.split_at_mut(cut(count));
-    let front = half(first, last.weights.len(), bounds, front_room);
-    let back = half(last, 0, bounds, back_room);
-    let lists = Lists { front, back };
-    Halves { lists, bounds }
+    let half = half_of(pans.weights.len());
+    let mut tops = [0; 4];
+    let top = topped(pans, half, bounds, &mut tops);
+    let lists = halved(pans, half, bounds, room);
+    Halves {
+        tops,
+        top,
+        lists,
+        bounds,
+    }
 }
 
 // The first place from `from` on of a choice that is allowed; the halves hold none that weighs less than their least.
@@ -78,6 +96,7 @@ pub fn next(pans: Pans, halves: Halves, from: u64) -> Option<u64>
     ensures { Next halves.entry.bounds.limit pans.entry.weights.now pans.entry.ways.now from halves.entry.bounds.to result }
 {
     let to = halves.bounds.to;
-    let found = least(&[0], halves.lists, halves.bounds.limit, from, to);
+    let tops = &halves.tops[..halves.top];
+    let found = least(tops, halves.lists, halves.bounds.limit, from, to);
     (found < to).then_some(found)
 }

@@ -1,15 +1,14 @@
-// The best bag by two halves of the pans: the choices of each half in order, and a sweep over both.
+// The best bag by two halves of the pans: the choices of each half in order, and a sweep over both beside the pans before them.
 #![tactic(auto)]
 
 mod answer;
-mod bounds;
 mod filled;
-mod half;
 mod halves;
-mod sieve;
+mod rooms;
 
 pub use answer::best;
-pub use bounds::Bounds;
 pub use filled::Halves;
-pub use halves::{ROOM, fill, full_room, next, room_for};
+pub use halves::{fill, next};
 pub use places::{Pans, Way, bag_in, pans_in, weight_in};
+pub use rooms::{ROOM, full_room, room_for};
+pub use sieves::Bounds;

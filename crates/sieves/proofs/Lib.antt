@@ -1,5 +1,4 @@
 -- The lemmas that several proofs share, here and in the crates above.
-pub mod Fronts
 pub mod Parts
 mod Sieving
 mod Weighing

@@ -9,7 +9,6 @@
 --   Whatever     a top and two entries, whatever they open
 --   Together     a top and two entries open together at most so many pans
 --   Apart        the counts of a top and of an entry of each list add up in their sum
---   ApartPairs   the counts of an entry of each list add up in their sum
 use Rattle.std.specs.Prelude.{◌≡◌, ℕ, ◌+◌, ◌<◌, ◌≤◌, List, length, slice_index, slice_index_or}
 use Rattle.places.specs.Place.{pans_in}
 use Rattle.sweeps.specs.declared.band.Band.{Band}
@@ -61,6 +60,3 @@ Together limit e a b = pans_in e + (pans_in a + pans_in b) ≤ limit
 
 abbrev pub Apart : List ℕ → List ℕ → List ℕ → Type 0
 Apart ts fs bs = (t p q : ℕ) → t < length ts → p < length fs → q < length bs → pans_in (slice_index ts t + (slice_index fs p + slice_index bs q)) ≡ pans_in (slice_index ts t) + (pans_in (slice_index bs q) + pans_in (slice_index fs p))
-
-abbrev pub ApartPairs : List ℕ → List ℕ → Type 0
-ApartPairs fs bs = (p q : ℕ) → p < length fs → q < length bs → pans_in (slice_index fs p + slice_index bs q) ≡ pans_in (slice_index bs q) + pans_in (slice_index fs p)

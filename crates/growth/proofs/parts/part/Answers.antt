@@ -2,7 +2,7 @@
 use Rattle.std.proofs.Common.{length, refl, ◌∙◌, arith}
 use Rattle.std.proofs.lemmas.List.{length-set, get_or-set_same}
 use Rattle.std.proofs.lemmas.Nat.{pow_pos}
-use Rattle.growth.proofs.ByPan.{all, from_last, from_step, from_room, from_sorted, from_first, part_of}
+use Rattle.growth.proofs.ByPan.{from_last, from_step, from_room, from_sorted, from_first}
 use Rattle.growth.proofs.parts.part.Goals as goal
 
 pub loop-k-init : goal.loop-k-init
@@ -10,7 +10,7 @@ loop-k-init c =
     let p = c.args.pans in
     let b = c.args.behind in
     let n = length p.weights.now in
-    from_last all b c.args.to p c.requires.few n _ refl
+    from_last b c.args.to p c.requires.few n _ refl
     (get_or-set_same c.args.es.now 0 _ 0 (omega (arith, c.requires.room, pow_pos n)) ∙ c.all_shut.ensures)
 
 pub grow-n-requires : goal.grow-n-requires
@@ -18,17 +18,17 @@ grow-n-requires c =
     let p = c.args.pans in
     let h = c.loop-k.invariant in
     record {
-      room = omega (arith, c.requires.room, simp length-set at c.loop-k.auto.es, from_room all c.args.behind c.args.to p c.requires.few c.loop-k.k _ _ c.loop-k-test.true (omega arith) h);
-      sorted = from_sorted all c.args.behind c.args.to p c.requires.few c.loop-k.k _ _ h;
+      room = omega (arith, c.requires.room, simp length-set at c.loop-k.auto.es, from_room c.args.behind c.args.to p c.requires.few c.loop-k.k _ _ c.loop-k-test.true (omega arith) h);
+      sorted = from_sorted c.args.behind c.args.to p c.requires.few c.loop-k.k _ _ h;
     }
 
 pub loop-k-preserved : goal.loop-k-preserved
 loop-k-preserved c =
     let p = c.args.pans in
-    from_step all c.args.behind c.args.to p c.requires.few (λ i us a cs o. o) c.loop-k.k c.loop-k-test.true (omega arith)
+    from_step c.args.behind c.args.to p c.requires.few c.loop-k.k c.loop-k-test.true (omega arith)
     _ _ _ _ _ _ c.of-pan.ensures.way c.of-pan.ensures.gain c.loop-k.invariant c.grow-n.ensures.grown
 
 pub returns : goal.returns
 returns c =
     let p = c.args.pans in
-    part_of _ _ _ _ _ _ (from_first all c.args.behind c.args.to p c.requires.few c.loop-k.k _ _ c.loop-k-test.false c.loop-k.invariant)
+    from_first c.args.behind c.args.to p c.requires.few c.loop-k.k _ _ c.loop-k-test.false c.loop-k.invariant

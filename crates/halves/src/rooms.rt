@@ -1,0 +1,38 @@
+// How many pans each half has, and the room that the halves take.
+ghost use Rattle.std.specs.Prelude.{◌≡◌, ℕ, ◌/◌, ◌^◌, ◌≤◌};
+ghost use Rattle.halves.specs.Next.{half_of, room_for};
+
+// Room for 24 pans, which is the most that a ring has.
+pub const ROOM: usize = 4096;
+
+// How many pans each half has: all but the first one or two.
+pub fn half_of(pans: usize) -> usize
+    ensures { result ≡ half_of pans }
+{
+    pans.saturating_sub(1) / 2
+}
+
+// So many entries have so many pans.
+pub fn entries(pans: usize) -> usize
+    requires { pans ≤ 24 }
+    ensures { result ≡ 2 ^ pans }
+{
+    1 << pans
+}
+
+// How many entries both halves of so many pans take.
+pub fn room_for(pans: usize) -> usize
+    requires { pans ≤ 24 }
+    ensures value { result ≡ room_for pans }
+    ensures enough { result ≤ 4096 }
+{
+    2 * entries(half_of(pans))
+}
+
+// The room for 24 pans, which is enough for every ring.
+pub fn full_room() -> usize
+    ensures value { result ≡ room_for 24 }
+    ensures enough { (n : ℕ) → n ≤ 24 → room_for n ≤ result }
+{
+    ROOM
+}
