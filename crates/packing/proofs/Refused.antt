@@ -92,7 +92,7 @@ pub passed_all :
     Accepted rs ws as'
 passed_all r p n = accepted (mapped_none RuleRefused _ r) (mapped_none Pans _ p) (mapped_none Number _ n)
 
-none_below : (m i : ℕ) (xs : List ℕ) → ((k : ℕ) → get_or xs k 0 ≤ m) → first_above m i xs ≡ None
+pub none_below : (m i : ℕ) (xs : List ℕ) → ((k : ℕ) → get_or xs k 0 ≤ m) → first_above m i xs ≡ None
 none_below m i [] h = refl
 none_below m i (x ∷ xs) h = rw (le-leb x m (h 0)) (none_below m (i + 1) xs (λ k. h (suc k)))
 

@@ -1,5 +1,5 @@
 // The checks of a rule and of lent pans, in the order of the list of refusals.
-ghost use Rattle.std.specs.Prelude.{◌≡◌, ◌+◌, ◌^◌, ◌<◌, ◌≤◌, ◌++◌, length, OnOk};
+ghost use Rattle.std.specs.Prelude.{◌≡◌, ℕ, ◌+◌, ◌^◌, ◌<◌, ◌≤◌, ◌++◌, length, slice_index, OnOk};
 ghost use Rattle.answers.specs.Refusals.{passed};
 ghost use Rattle.choices.specs.Ruled.{rule_in};
 ghost use Rattle.packing.specs.Refusals.{Accepted, first_above, first_refusal, numbers_refusal, pans_refusal, room_refusal, rule_refusal};
@@ -13,11 +13,27 @@ const LIMIT: u32 = 1_000_000;
 
 const PANS: usize = 24;
 
-// The place of the first number above the limit, counted from `from` on.
+// The largest of some numbers, 0 where there are none.
+fn largest(numbers: &[u32]) -> u32
+    ensures most { (i : ℕ) → slice_index numbers.now i ≤ result }
+    ensures among { (i : ℕ) × (slice_index numbers.now i ≡ result) }
+{
+    let mut most = 0;
+    for x in numbers {
+        most = most.max(*x);
+    }
+    most
+}
+
+// The place of the first number above the limit, counted from `from` on. It is looked for where there is one: the largest number is found
+// for several at once, the first above the limit one by one.
 pub fn first_above(numbers: &[u32], from: u64) -> Option<u64>
     requires { from + length numbers.now < 2 ^ 64 }
     ensures { result ≡ first_above 1000000 from numbers.now }
 {
+    if largest(numbers) <= LIMIT {
+        return None;
+    }
     let place = numbers.iter().position(|x| *x > LIMIT)?;
     Some(from + place as u64)
 }

@@ -2,8 +2,11 @@
 use Rattle.std.proofs.Common.{◌<◌, ◌≤◌, sym, ◌∙◌, rules, Some, None}
 use borrow.Author.Tests.{tests}
 use Rattle.std.proofs.lemmas.Iterator.{YieldsList-from_slice, IsFirst-from_position}
-use Rattle.packing.proofs.Refused.{first_above_by}
+use Rattle.packing.proofs.Refused.{first_above_by, none_below}
 use Rattle.packing.proofs.refusal.first_above.Goals as goal
+
+pub returns-then-largest-le-LIMIT : goal.returns-then-largest-le-LIMIT
+returns-then-largest-le-LIMIT c = sym (none_below 1000000 c.args.from c.args.numbers.now (λ i. omega (arith, c.largest.ensures.most i, c.if-largest-le-LIMIT.true)))
 
 pub returns-in_err-place : goal.returns-in_err-place
 returns-in_err-place c =
