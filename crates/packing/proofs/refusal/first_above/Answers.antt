@@ -1,5 +1,5 @@
 -- What is left of the proof of the first number above the limit.
-use Rattle.std.proofs.Common.{◌<◌, ◌≤◌, sym, ◌∙◌, rules, Some, None}
+use Rattle.std.proofs.Common.{arith, ◌<◌, ◌≤◌, sym, ◌∙◌, rules, Some, None}
 use borrow.Author.Tests.{tests}
 use Rattle.std.proofs.lemmas.Iterator.{YieldsList-from_slice, IsFirst-from_position}
 use Rattle.packing.proofs.Refused.{first_above_by, none_below}
