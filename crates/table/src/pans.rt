@@ -30,12 +30,7 @@ pub fn free_of(ring: Ring) -> [u32; 24]
 {
     let mut free = [0; 24];
     for pan in 0..ring.weights.len() {
-        let weight = ring.weights[pan];
-        free[pan] = if ring.ages[pan] < ring.rule.age {
-            weight
-        } else {
-            0
-        };
+        free[pan] = ring.weights[pan] * u32::from(ring.ages[pan] < ring.rule.age);
     }
     free
 }
