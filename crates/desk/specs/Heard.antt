@@ -2,11 +2,13 @@
 --   Quiet      a line that is passed over: nothing is said, nothing changes
 --   Unread     a line that is how no command is written: it is turned away at its number, and nothing changes
 --   Obeyed     a line that is how a command is written: the command is obeyed
+--   Short      memory fails for the numbers of a list, as only the lines that begin as one ask for it: nothing changes
 use Rattle.std.specs.Prelude.{◌≡◌, ℕ, ◌⊎◌, List, Some, None, Ok, Err, Option, Result}
 use Rattle.answers.specs.declared.refusal.Refusal.TheVariants.{Line}
-use Rattle.text.specs.Reading.{Passed, Says, Unwritten}
+use Rattle.text.specs.Reading.{Begun, Passed, Says, Unwritten}
 use Rattle.text.specs.declared.commands.Command.{Command}
 use Rattle.text.specs.declared.commands.Fault.{Fault}
+use Rattle.text.specs.declared.commands.Fault.TheVariants.{NoMemory}
 use Rattle.text.specs.declared.replies.Reply.{Reply}
 use Rattle.text.specs.declared.replies.Reply.TheVariants.{Refused}
 use Rattle.desk.specs.Kept.{State}
@@ -28,6 +30,11 @@ pub record Obeyed (bs : List ℕ) (number : ℕ) (s t : State) (r : Option Reply
   pub says : Says bs command
   pub obeys : Obeys command number s t r
 
+pub record Short (bs : List ℕ) (s t : State) (f : Fault) : Type 0 where
+  pub fault : f ≡ NoMemory
+  pub begun : Begun bs
+  pub same : t ≡ s
+
 abbrev pub Heard : List ℕ → (number : ℕ) → (before after : State) → Result (Option Reply) Fault → Type 0
 Heard bs l s t (Ok r) = Quiet bs s t r ⊎ (Unread bs l s t r ⊎ Obeyed bs l s t r)
-Heard bs l s t (Err f) = t ≡ s
+Heard bs l s t (Err f) = Short bs s t f

@@ -1,7 +1,7 @@
 -- What is kept between lines, as lists. Assumes nothing: these are definitions.
 --   State      the rule, the pans, their ages and the handfuls, and how many entries the halves' room has
 --   state_of   what a desk keeps
---   Fresh      a desk with nothing on it, and room for every ring
+--   Fresh      a desk with nothing on it, room for every ring, and bytes for the table
 use Rattle.std.specs.Prelude.{◌≡◌, ℕ, List, [], length, vec_items, vec_len}
 use Rattle.desk.specs.declared.kept.Desk.{Desk}
 
@@ -28,3 +28,4 @@ pub record Fresh (d : Desk) : Type 0 where
   pub ages : vec_items d.ages ≡ []
   pub handfuls : vec_items d.handfuls ≡ []
   pub room : vec_len d.entries ≡ 4096
+  pub bytes : vec_len d.bytes ≡ 204800
