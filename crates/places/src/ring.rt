@@ -1,6 +1,7 @@
 // What may be done with the pans of a ring.
-ghost use Rattle.places.specs.Ring.{way as way_by, ways as ways_by};
-ghost use Rattle.std.specs.Prelude.{◌≡◌, ◌<◌, length, slice_index, take};
+ghost use Rattle.places.specs.Ring.{neither, way as way_by, ways as ways_by};
+ghost use Rattle.places.specs.declared.way.Way.{Way};
+ghost use Rattle.std.specs.Prelude.{◌≡◌, ℕ, ◌<◌, ◌≤◌, length, slice_index, slice_index_or, take};
 
 use crate::way::Way;
 use choices::Ring;
@@ -8,7 +9,8 @@ use std::array;
 
 // What may be done with the pan of that number. With none of that number nothing may be done.
 fn way(ring: Ring, pan: usize) -> Way
-    ensures { pan < length ring.entry.weights.now → result ≡ way_by ring.entry.rule.age (slice_index ring.entry.weights.now pan) (slice_index ring.entry.ages.now pan) }
+    ensures known { pan < length ring.entry.weights.now → result ≡ way_by ring.entry.rule.age (slice_index ring.entry.weights.now pan) (slice_index ring.entry.ages.now pan) }
+    ensures others { length ring.entry.weights.now ≤ pan → result ≡ neither }
 {
     if pan < ring.weights.len() {
         Way {
@@ -26,7 +28,8 @@ fn way(ring: Ring, pan: usize) -> Way
 // A pan may be opened where something lies in it, and may stay shut while it has not waited for too many bags. An array for as
 // many pans as there can be, since no memory is asked for.
 pub fn ways(ring: Ring) -> [Way; 24]
-    ensures { take (length ring.entry.weights.now) result ≡ ways_by ring.entry.rule.age ring.entry.weights.now ring.entry.ages.now }
+    ensures front { take (length ring.entry.weights.now) result ≡ ways_by ring.entry.rule.age ring.entry.weights.now ring.entry.ages.now }
+    ensures others { (pan : ℕ) (d : Way) → length ring.entry.weights.now ≤ pan → pan < 24 → slice_index_or result pan d ≡ neither }
 {
     array::from_fn(|pan| way(ring, pan))
 }
