@@ -39,7 +39,7 @@ pub struct Rooms {
 
 impl Rooms {
     pub fn new() -> Rooms {
-        Rooms { entries: vec![0; 4096], bytes: vec![0; 25 * 2_000_100], twin: twin_halves::Room::new() }
+        Rooms { entries: vec![0; 4096], bytes: vec![0; 26 * 2_000_100], twin: twin_halves::Room::new() }
     }
 
     #[inline(always)]

@@ -39,19 +39,21 @@ impl Ring {
         bits(&self.weights, |w| w == 0)
     }
 
-    /// The bytes that the table takes: a row of W + 16 for each pan that is neither old nor empty, and one more.
+    /// The bytes that the table takes: a row for no pan and one for each two pans, each of whole blocks of 64 bytes for the weights up to W,
+    /// with as many in front as two pans can reach back.
     pub fn table_bytes(&self) -> usize {
-        let (mut due, mut free, mut rows) = (0u32, 0u32, 0usize);
+        let (mut due, mut free, mut heaviest) = (0u32, 0u32, 0u32);
         for (w, a) in self.weights.iter().zip(&self.ages) {
             if *a >= self.rule[3] {
                 due += w;
             } else {
                 free += w;
-                rows += (*w > 0) as usize;
+                heaviest = heaviest.max(*w);
             }
         }
         let span = (self.rule[0] + self.rule[1]).saturating_sub(due).min(free);
-        (span as usize + 16) * (rows + 1)
+        let width = |most: u32| (most as usize / 64 + 1) * 64;
+        (width(span) + width(span).min(width(2 * heaviest))) * ((self.weights.len() + 1) / 2 + 1)
     }
 }
 

@@ -28,4 +28,4 @@ pub record Fresh (d : Desk) : Type 0 where
   pub ages : vec_items d.ages ≡ []
   pub handfuls : vec_items d.handfuls ≡ []
   pub room : vec_len d.entries ≡ 4096
-  pub bytes : vec_len d.bytes ≡ 204800
+  pub bytes : vec_len d.bytes ≡ 409600

@@ -17,7 +17,7 @@ pub struct Desk {
 }
 
 // Bytes for the table by weight, as many as it is ever asked for: at 24 pans the halves are the faster way beyond.
-pub const TABLE_ROOM: usize = 204_800;
+pub const TABLE_ROOM: usize = 409_600;
 
 // A desk with nothing on it. The rooms are asked for once, here: want of memory is an ordinary error.
 pub fn empty_desk(heap: Global) -> Result<Desk, AllocError>

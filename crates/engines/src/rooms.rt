@@ -14,7 +14,7 @@ pub struct Rooms<'a> {
 }
 
 // A table of more bytes than so many times the halves' entries takes longer than the halves do (measured, see bench/).
-const PAYS: usize = 50;
+const PAYS: usize = 100;
 
 impl<'a> Finder for Rooms<'a> {
     ghost lacks = { λ _ _ _ _. None };
