@@ -1,5 +1,5 @@
 -- Laws of choices as numbers: every choice is some number, and every number is some choice.
-use Rattle.std.proofs.Common.{◌≡◌, ℕ, zero, suc, ◌+◌, ◌*◌, ◌/◌, ◌%◌, ◌^◌, ◌<◌, ◌≤◌, Bool, true, false, eqb, [], ◌∷◌, length, sym, refl, ap, ◌∙◌, ap₂, mod-eq_of_lt, mul_assoc, mul_comm, add-one, arith}
+use Rattle.std.proofs.Common.{◌≡◌, ℕ, zero, suc, ◌+◌, ◌*◌, ◌/◌, ◌%◌, ◌^◌, ◌<◌, ◌≤◌, Bool, true, false, eqb, [], ◌∷◌, length, sym, refl, ap, ◌∙◌, ap₂, mod-eq_of_lt, mul_assoc, mul_comm, mul-one, mul-add, add-one, arith}
 use native.Mathlib.Nat.{pow-succ', mul-add-div_right}
 use Rattle.std.proofs.lemmas.Nat.{pow_pos, pow_below, shr_high, mod-pow-add}
 use Rattle.std.proofs.lemmas.Bool.Decides.{nat_tests}
@@ -100,3 +100,8 @@ some_opened n m p l = at (opened (choice_of n m)) refl
     at : (k : ℕ) → opened (choice_of n m) ≡ k → 1 ≤ k
     at zero e = absurd (omega (arith, none_opened (choice_of n m) e, code_choice_of n m, mod-eq_of_lt l))
     at (suc k) e = omega arith
+
+-- a number read so far, with one pan more
+pub marks_more : (i pans n : ℕ) (c : Bool) → pans + 2 ^ i * (bit c + 2 * n) ≡ (pans + bit c * 2 ^ i) + 2 ^ (i + 1) * n
+marks_more i pans n true = rw (add-one i, pow-succ' 2 i) (omega (arith, mul-add (2 ^ i) 1 (2 * n), mul-one (2 ^ i), mul_assoc (2 ^ i) 2 n, mul_comm (2 ^ i) 2))
+marks_more i pans n false = rw (add-one i, pow-succ' 2 i) (omega (arith, mul-add (2 ^ i) 0 (2 * n), mul_assoc (2 ^ i) 2 n, mul_comm (2 ^ i) 2))

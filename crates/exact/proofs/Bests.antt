@@ -9,6 +9,7 @@ use Rattle.choices.specs.declared.rule.Rule.{Rule}
 use Rattle.choices.proofs.Choices.{Fitting, fitting, fits_from}
 use Rattle.choices.proofs.Numbers.{number_lt}
 use Rattle.order.specs.Order.{better, first_more, BestBag}
+use Rattle.order.proofs.Orders.{not_better}
 use Rattle.exact.specs.Pans.{due_of, free_of}
 use Rattle.exact.specs.Few.{Makes, ChosenAt, Chosen}
 use Rattle.exact.specs.Answers.{Easy}
@@ -56,9 +57,6 @@ makes_left {r} {ws} {as'} l a just =
       counts = refl;
       weighs = omega (arith, l.makes, a.parts.weighs);
     }
-
-not_better : (a b m n : ℕ) (f : Bool) → b ≤ a → (a ≡ b → n ≤ m) → (a ≡ b → m ≡ n → f ≡ false) → (ltb a b || (eqb a b && (ltb m n || (eqb m n && f)))) ≡ false
-not_better a b m n f heavy many first = grind (arith, nat_tests)
 
 -- the chosen one, joined with the pans that have to be opened
 joined :

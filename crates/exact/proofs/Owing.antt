@@ -4,6 +4,7 @@ use mathlib.Core.Bool.{and_assoc}
 use native.Mathlib.Nat.{pow-succ'}
 use Rattle.std.proofs.lemmas.Bool.{le-ltb, lt-ltb}
 use Rattle.choices.specs.Choice.{bit, weight_of, opened, none_empty}
+use Rattle.choices.proofs.Numbers.{marks_more}
 use Rattle.choices.specs.Numbered.{number_of}
 use Rattle.exact.specs.Pans.{due_of}
 use Rattle.exact.specs.declared.due.Due.{Due}
@@ -20,11 +21,6 @@ pub record Owing (old : ℕ) (ws as' us vs : List ℕ) (i : ℕ) (d : Due) : Typ
   pub counts : d.pans + opened (due_of old vs) ≡ opened (due_of old as')
   pub numbers : d.number + 2 ^ i * number_of (due_of old vs) ≡ number_of (due_of old as')
   pub fills : (d.filled && none_empty us (due_of old vs)) ≡ none_empty ws (due_of old as')
-
--- the number with one pan more
-number_more : (i pans n : ℕ) (c : Bool) → pans + 2 ^ i * (bit c + 2 * n) ≡ (pans + bit c * 2 ^ i) + 2 ^ (i + 1) * n
-number_more i pans n true = rw (add-one i, pow-succ' 2 i) (omega (arith, mul-add (2 ^ i) 1 (2 * n), mul-one (2 ^ i), mul_assoc (2 ^ i) 2 n, mul_comm (2 ^ i) 2))
-number_more i pans n false = rw (add-one i, pow-succ' 2 i) (omega (arith, mul-add (2 ^ i) 0 (2 * n), mul_assoc (2 ^ i) 2 n, mul_comm (2 ^ i) 2))
 
 double : (i : ℕ) → 2 ^ (i + 1) ≡ 2 * 2 ^ i
 double i = rw (add-one i) (pow-succ' 2 i)
@@ -61,7 +57,7 @@ module _
           small = omega (arith, h.small, double i);
           weighs = omega (arith, weighs);
           counts = omega (arith, counts);
-          numbers = omega (arith, numbers, number_more i d.number (number_of (due_of old vs)) true);
+          numbers = omega (arith, numbers, marks_more i d.number (number_of (due_of old vs)) true);
           fills = rw (filled, and_assoc) fills;
         })
 
@@ -82,6 +78,6 @@ module _
           small = omega (arith, h.small, double i);
           weighs = omega (arith, weighs);
           counts = omega (arith, counts);
-          numbers = omega (arith, numbers, number_more i d.number (number_of (due_of old vs)) false);
+          numbers = omega (arith, numbers, marks_more i d.number (number_of (due_of old vs)) false);
           fills = fills;
         })

@@ -1,5 +1,5 @@
 -- The order of choices is an order by three numbers, and what follows from that.
-use Rattle.std.proofs.Common.{◌≡◌, ℕ, ◌%◌, ◌^◌, Bool, true, false, cond, ◌&&◌, ◌||◌, eqb, ltb, Some, Option, Ordering, Less, Equal, Greater, ◌⊎◌, List, [], ◌∷◌, length, sym, refl, ap, ◌∙◌, ap₂, inl, inr, arith}
+use Rattle.std.proofs.Common.{◌≡◌, ℕ, ◌%◌, ◌^◌, ◌≤◌, Bool, true, false, cond, ◌&&◌, ◌||◌, eqb, ltb, Some, Option, Ordering, Less, Equal, Greater, ◌⊎◌, List, [], ◌∷◌, length, sym, refl, ap, ◌∙◌, ap₂, inl, inr, arith}
 use Rattle.std.specs.Cmp.{IsStrictWeakOrder}
 use Rattle.std.specs.Ordering.{is_lt, is_some_and, nat_cmp, partial_ordering_then}
 use Rattle.std.proofs.lemmas.List.MinMax.{IsStrictWeakOrder-by_number, IsStrictWeakOrder-flip}
@@ -112,3 +112,7 @@ lt_by_three v w p q s t = lt_then v w _ ∙ ap (λ (b : Bool). ltb v w || (eqb v
     last true d = refl
     last false true = refl
     last false false = refl
+
+-- what is no lighter, opens no fewer pans of equals, and of those not the first one more, is not better
+pub not_better : (a b m n : ℕ) (f : Bool) → b ≤ a → (a ≡ b → n ≤ m) → (a ≡ b → m ≡ n → f ≡ false) → (ltb a b || (eqb a b && (ltb m n || (eqb m n && f)))) ≡ false
+not_better a b m n f heavy many first = grind (arith, nat_tests)

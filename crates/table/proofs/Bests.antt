@@ -6,6 +6,7 @@ use Rattle.choices.specs.Choice.{Choice, weight_of, opened, none_empty, keeps_ol
 use Rattle.choices.specs.declared.rule.Rule.{Rule}
 use Rattle.choices.proofs.Choices.{Fitting, fitting, fits_from, opened_le}
 use Rattle.order.specs.Order.{better, first_more, NoneOf, BestBag}
+use Rattle.order.proofs.Orders.{not_better}
 use Rattle.table.specs.Pans.{due_weight, due_pans, free_at, none_due_empty, span_of, pairs_of, pad_of, width_of, row_bytes, table_bytes}
 use Rattle.table.specs.Rows.{Makes, Reaches, Row, Rows, Read, Lightest, LightestAt, row_at}
 use Rattle.table.specs.Surveyed.{Surveyed}
@@ -96,9 +97,6 @@ none_found {r} {ws} {as'} t h cs = false_from_ne_true (fits r ws as' cs) at
   where
     at : fits r ws as' cs ≡ true → ⊥
     at f = let w = wanted r ws as' cs t.paired f in missed t w (h _ (omega (arith, t.enough, w.enough)) (omega (arith, t.span, w.within)))
-
-not_better : (a b m n : ℕ) (f : Bool) → b ≤ a → (a ≡ b → n ≤ m) → (a ≡ b → m ≡ n → f ≡ false) → (ltb a b || (eqb a b && (ltb m n || (eqb m n && f)))) ≡ false
-not_better a b m n f heavy many first = grind (arith, nat_tests)
 
 pub best_found :
     {r : Rule} {ws as' : List ℕ} {most start from limit x number : ℕ} {bytes : List ℕ} → Window r ws as' most start from limit bytes →

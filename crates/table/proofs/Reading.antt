@@ -5,6 +5,7 @@ use Rattle.std.proofs.lemmas.List.{drop_all}
 use Rattle.std.proofs.lemmas.Bool.{cases_lt, and_parts, le-ltb, lt-ltb, ltb-true, ltb-false, leb-true, leb-false}
 use Rattle.choices.specs.Choice.{Choice, bit, opened}
 use Rattle.choices.specs.Numbered.{number_of}
+use Rattle.choices.proofs.Numbers.{marks_more}
 use Rattle.table.specs.Pans.{due_at, due_pans, free_at, free_before, none_due_empty, pairs_of}
 use Rattle.table.specs.Rows.{Makes, Least, First, Row, Rows, Read, back, joined, row_at}
 use Rattle.table.proofs.Joining.{back_far, back_near, back_both}
@@ -59,11 +60,7 @@ pub marked : {n : ℕ} (d : Bool) → n ≡ bit d → eqb n 1 ≡ d
 marked true e = rw e refl
 marked false e = rw e refl
 
--- the number with one pan more
-number_more : (i pans n : ℕ) (c : Bool) → pans + 2 ^ i * (bit c + 2 * n) ≡ (pans + bit c * 2 ^ i) + 2 ^ (i + 1) * n
-number_more i pans n true = rw (add-one i, pow-succ' 2 i) (omega (arith, mul-add (2 ^ i) 1 (2 * n), mul-one (2 ^ i), mul_assoc (2 ^ i) 2 n, mul_comm (2 ^ i) 2))
-number_more i pans n false = rw (add-one i, pow-succ' 2 i) (omega (arith, mul-add (2 ^ i) 0 (2 * n), mul_assoc (2 ^ i) 2 n, mul_comm (2 ^ i) 2))
-
+-- the number with one pan more is small
 pub small_more : (i pans : ℕ) (c : Bool) → pans < 2 ^ i → pans + bit c * 2 ^ i < 2 ^ (i + 1)
 small_more i pans true h = rw (add-one i, pow-succ' 2 i) (omega arith)
 small_more i pans false h = rw (add-one i, pow-succ' 2 i) (omega arith)
@@ -93,7 +90,7 @@ module _
           small = rw is (small_more i pans c h.small);
           goes = λ cs f.
               let g = h.goes (c ∷ cs) (rw (drop_weights old ws as' i paired few, drop_ages old ws as' i paired few) (step cs f)) in
-              (g.0, g.1, rw is (g.2 ∙ number_more i pans (number_of cs) c));
+              (g.0, g.1, rw is (g.2 ∙ marks_more i pans (number_of cs) c));
         }
 
     whole : i < length ws → Least old (get_or ws i 0 ∷ drop (i + 1) ws) (get_or as' i 0 ∷ drop (i + 1) as') left count
