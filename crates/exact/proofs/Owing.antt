@@ -1,9 +1,9 @@
 -- One look over the pans for those that have to be opened, pan by pan: what is seen so far and what is left make up the whole.
-use Rattle.std.proofs.Common.{◌≡◌, ℕ, suc, ◌+◌, ◌*◌, ◌^◌, ◌<◌, ◌≤◌, Bool, true, false, ◌&&◌, leb, List, ◌∷◌, length, get_or, add-one, mul-add, mul-one, mul_assoc, mul_comm, arith}
+use Rattle.std.proofs.Common.{◌≡◌, ℕ, suc, ◌+◌, ◌*◌, ◌^◌, ◌<◌, ◌≤◌, true, false, ◌&&◌, leb, List, ◌∷◌, length, get_or, add-one, arith}
 use mathlib.Core.Bool.{and_assoc}
 use native.Mathlib.Nat.{pow-succ'}
 use Rattle.std.proofs.lemmas.Bool.{le-ltb, lt-ltb}
-use Rattle.choices.specs.Choice.{bit, weight_of, opened, none_empty}
+use Rattle.choices.specs.Choice.{weight_of, opened, none_empty}
 use Rattle.choices.proofs.Numbers.{marks_more}
 use Rattle.choices.specs.Numbered.{number_of}
 use Rattle.exact.specs.Pans.{due_of}

@@ -1,5 +1,5 @@
 -- What is left of the proof that the best bag is answered.
-use Rattle.std.proofs.Common.{sym, ◌∙◌, arith}
+use Rattle.std.proofs.Common.{sym, ◌∙◌}
 use Rattle.table.proofs.Bests.{none_left}
 use Rattle.table.proofs.answer.best.Goals as goal
 

@@ -1,7 +1,7 @@
 -- What is left of the proof that the rows give the best bag.
 use Rattle.std.proofs.Common.{sym, ◌∙◌, arith}
 use Rattle.std.proofs.lemmas.Bool.{and_parts}
-use Rattle.table.proofs.Bests.{reaches, rows_fit, rows_from, window, none_found, best_found}
+use Rattle.table.proofs.Bests.{reaches, rows_fit, window, none_found, best_found}
 use Rattle.table.proofs.answer.by_rows.Goals as goal
 
 pub fill-requires-clause-reach : goal.fill-requires-clause-reach

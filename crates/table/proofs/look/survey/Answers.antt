@@ -1,5 +1,5 @@
 -- What is left of the proof of the look over the pans.
-use Rattle.std.proofs.Common.{◌+◌, length, get_or, drop, arith}
+use Rattle.std.proofs.Common.{arith}
 use Rattle.std.proofs.lemmas.List.{drop_more}
 use Rattle.table.proofs.Surveying.{surveying_next}
 use Rattle.table.proofs.look.survey.Goals as goal

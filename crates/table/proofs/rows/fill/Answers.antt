@@ -1,5 +1,5 @@
 -- What is left of the proof that all rows are filled.
-use Rattle.std.proofs.Common.{◌+◌, ◌-◌, ◌*◌, ◌≤◌, get_or, ◌≡◌, ◌<◌, length, sym, ◌∙◌, mul-one, mul-add, arith}
+use Rattle.std.proofs.Common.{◌+◌, ◌-◌, ◌*◌, ◌≡◌, ◌<◌, length, sym, ◌∙◌, mul-one, mul-add, arith}
 use Rattle.std.proofs.lemmas.List.{length-take-le, get_or_append_left}
 use Rattle.table.specs.Pans.{pairs_of}
 use Rattle.table.proofs.Filling.{filling_none, filling_more, filling_before, filling_free, filling_room, filling_blank}

@@ -1,5 +1,5 @@
 -- What is left of the proof that the first choice is read.
-use Rattle.std.proofs.Common.{eqb, ◌||◌, ◌+◌, ◌-◌, ◌*◌, ◌≤◌, get_or, ◌≡◌, ◌<◌, length, arith}
+use Rattle.std.proofs.Common.{eqb, ◌||◌, ◌+◌, ◌-◌, ◌*◌, get_or, ◌≡◌, ◌<◌, length, arith}
 use Rattle.std.proofs.Math.Pow.{pow_mono}
 use Rattle.table.specs.Pans.{pairs_of}
 use Rattle.table.proofs.Filling.{row_below, rows_all}
