@@ -1,182 +1,171 @@
 #!/usr/bin/env python3
-# A model of the program's language, apart from the program: what it prints for a text of commands.
+# A plain model of the language of weigh, to hold the program's answers beside. It was written from docs/GUIDE.md alone, with
+# no look at the sources, and says what the commands mean in the plainest way: a bag is found by trying all choices of pans.
 #
 #     python3 tests/model.py < COMMANDS > EXPECTED
-#
-# It says what the commands mean in the plainest way, with all choices tried, and is there to be held beside the
-# program and to make the expected output of the examples.
-import itertools
+
 import re
 import sys
+from itertools import combinations
 
-LIMIT = 1_000_000  # no number of a rule, no weight, no age and no season is above it
+LARGEST = 1000000  # for the numbers of a rule, weights, ages and bags
+LARGEST_KEPT = 4294967295
 MOST_PANS = 24
-MOST = 2**32 - 1  # a number that passes 32 bits counts as this one: it is above the limit in any case
 
-# A word, and numbers with one blank before each; a number is written in one way.
-LINE = re.compile(rb"([a-z]+)((?: (?:0|[1-9][0-9]*))*)")
+NUMBER = re.compile(rb"0|[1-9][0-9]*")
+
+# How many numbers stand behind each word; None is any count, also no number.
+COMMANDS = {b"rule": None, b"pans": None, b"ages": None, b"handfuls": None,
+            b"bag": 0, b"fall": 2, b"bags": 1}
+
 
 class Refused(Exception):
-    """What is turned away, by its number in the list of refusals and its place."""
+    pass
 
-    def __init__(self, number, place):
-        self.number, self.place = number, place
 
-class Desk:
-    """What the commands before have left."""
-
+class Ring:
     def __init__(self):
+        # Nothing given is the same as the word alone: no numbers.
         self.rule, self.pans, self.ages, self.handfuls = [], [], [], []
 
-# ---- what is turned away
+
+def number(digits):
+    # More than ten digits pass 32 bits, and Python won't read very long ones.
+    return LARGEST_KEPT if len(digits) > 10 else min(int(digits), LARGEST_KEPT)
+
+
+def command(line, place):
+    word, *rest = line.split(b" ")
+    if word not in COMMANDS or not all(NUMBER.fullmatch(r) for r in rest):
+        raise Refused(4, place)
+    if COMMANDS[word] not in (None, len(rest)):
+        raise Refused(4, place)
+    return word.decode("ascii"), [number(digits) for digits in rest]
+
+
+def refuse_too_large(reason, numbers, first_place):
+    for place, value in enumerate(numbers, first_place):
+        if value > LARGEST:
+            raise Refused(reason, place)
+
 
 def check_rule(rule):
     if len(rule) != 4:
+        # The first missing is where the list ends, the first too many is at 4.
         raise Refused(1, min(len(rule), 4))
-    for place, number in enumerate(rule):
-        if number > LIMIT:
-            raise Refused(1, place)
+    refuse_too_large(1, rule, 0)
     if rule[0] == 0:
         raise Refused(1, 0)
 
-def check_pans(pans, ages):
-    if not 1 <= len(pans) <= MOST_PANS:
-        raise Refused(2, len(pans))
-    if len(ages) != len(pans):
-        raise Refused(2, len(ages))
 
-def check_numbers(numbers, start):
-    for place, number in enumerate(numbers):
-        if number > LIMIT:
-            raise Refused(3, start + place)
+def check_bag(ring):
+    check_rule(ring.rule)
+    count = len(ring.pans)
+    if not 1 <= count <= MOST_PANS:
+        raise Refused(2, count)
+    if len(ring.ages) != count:
+        raise Refused(2, len(ring.ages))
+    refuse_too_large(3, ring.pans, 0)
+    refuse_too_large(3, ring.ages, count)
 
-def check_ring(desk):
-    check_rule(desk.rule)
-    check_pans(desk.pans, desk.ages)
-    check_numbers(desk.pans + desk.ages, 0)
 
-# ---- a bag
+def check_season(ring, count, place):
+    check_bag(ring)
+    refuse_too_large(3, ring.handfuls, 2 * len(ring.pans))
+    if count > LARGEST:
+        raise Refused(4, place)
 
-def fits(rule, pans, ages, opened):
-    target, above, most, old = rule
-    weight = sum(pans[pan] for pan in opened)
-    return (
-        target <= weight <= target + above
-        and len(opened) <= most
-        and all(pans[pan] > 0 for pan in opened)
-        and all(pan in opened for pan, age in enumerate(ages) if age >= old)
-    )
 
-def choices(count, most):
-    """Every choice of at most so many pans, as the numbers of those that are opened, in their order."""
-    for size in range(min(count, most) + 1):
-        yield from itertools.combinations(range(count), size)
+def bags_by_the_rule(ring):
+    target, above, most, old_age = ring.rule
+    filled = [pan for pan, weight in enumerate(ring.pans) if weight > 0]
+    # An old pan that is empty is in no choice, so then no bag is found.
+    old = {pan for pan, age in enumerate(ring.ages) if age >= old_age}
+    for size in range(min(most, len(filled)) + 1):
+        for choice in combinations(filled, size):
+            weight = sum(ring.pans[pan] for pan in choice)
+            if target <= weight <= target + above and old.issubset(choice):
+                yield weight, size, choice
 
-def place_in_order(pans, opened):
-    """Lighter first, then fewer pans, then the one that opens the first pan in which two differ."""
-    shut = [pan not in opened for pan in range(len(pans))]
-    return sum(pans[pan] for pan in opened), len(opened), shut
 
-def best(rule, pans, ages):
-    """The best choice that fits, or None."""
-    fitting = [opened for opened in choices(len(pans), rule[2]) if fits(rule, pans, ages, opened)]
-    return min(fitting, key=lambda opened: place_in_order(pans, opened), default=None)
-
-def make_bag(desk):
-    """Opens the best choice: its pans and its weight; or None, and then nothing changes."""
-    opened = best(desk.rule, desk.pans, desk.ages)
-    if opened is None:
+def make_bag(ring):
+    # Of equally many pans the smaller tuple opens the first pan that differs.
+    best = min(bags_by_the_rule(ring), default=None)
+    if best is None:
         return None
-    weight = sum(desk.pans[pan] for pan in opened)
-    desk.ages = [0 if pan in opened else age + 1 for pan, age in enumerate(desk.ages)]
-    desk.pans = [0 if pan in opened else grams for pan, grams in enumerate(desk.pans)]
-    return opened, weight
+    weight, _, choice = best
+    for pan in range(len(ring.pans)):
+        ring.ages[pan] += 1
+        if pan in choice:
+            ring.pans[pan] = ring.ages[pan] = 0
+    return weight, choice
 
-# ---- the commands: each takes the desk, its numbers and its line, and gives what is printed, or None
 
-def rule(desk, numbers, line):
-    desk.rule = numbers
-
-def pans(desk, numbers, line):
-    desk.pans = numbers
-
-def ages(desk, numbers, line):
-    desk.ages = numbers
-
-def handfuls(desk, numbers, line):
-    desk.handfuls = numbers
-
-def bag(desk, numbers, line):
-    check_ring(desk)
-    made = make_bag(desk)
+def bag(ring):
+    check_bag(ring)
+    made = make_bag(ring)
     if made is None:
         return "none"
-    opened, weight = made
-    return f"open {' '.join(map(str, opened))}: {weight}"
+    weight, choice = made
+    return "open %s: %d" % (" ".join(map(str, choice)), weight)
 
-def fall(desk, numbers, line):
-    pan, grams = numbers
-    if grams > LIMIT:
+
+def fall(ring, pan, weight, place):
+    # It asks for no bag, so what is wrong with the rest isn't said here.
+    if weight > LARGEST:
         raise Refused(3, pan)
-    if pan >= len(desk.pans) or desk.pans[pan] != 0:
-        raise Refused(4, line)
-    desk.pans[pan] = grams
+    if pan >= len(ring.pans) or ring.pans[pan] != 0:
+        raise Refused(4, place)
+    ring.pans[pan] = weight
 
-def bags(desk, numbers, line):
-    (asked,) = numbers
-    check_ring(desk)
-    check_numbers(desk.handfuls, 2 * len(desk.pans))
-    if asked > LIMIT:
-        raise Refused(4, line)
-    made, total, end = 0, 0, ""
-    falling = itertools.cycle(desk.handfuls)
-    while made < asked:
-        bag_made = make_bag(desk)
-        if bag_made is None:
-            end = ", then none"
+
+def handfuls_fall(ring, used):
+    for pan, weight in enumerate(ring.pans):
+        if weight == 0 and ring.handfuls:
+            ring.pans[pan] = ring.handfuls[used % len(ring.handfuls)]
+            used += 1  # also for a handful of 0, which leaves the pan empty
+    return used
+
+
+def bags(ring, count, place):
+    check_season(ring, count, place)
+    weights, used, ending = [], 0, ""
+    while len(weights) < count:
+        made = make_bag(ring)
+        if made is None:
+            ending = ", then none"
             break
-        made, total = made + 1, total + bag_made[1]
-        # With an empty list nothing falls.
-        desk.pans = [grams if grams > 0 else next(falling, 0) for grams in desk.pans]
-    return f"bags {made}: {total}, {total - made * desk.rule[0]} given away{end}"
+        weights.append(made[0])
+        used = handfuls_fall(ring, used)
+    total, targets = sum(weights), len(weights) * ring.rule[0]
+    return "bags %d: %d, %d given away%s" % (
+        len(weights), total, total - targets, ending)
 
-# How many numbers a command takes: None where it keeps any, and says later what is wrong with them.
-COMMANDS = {b"rule": (rule, None), b"pans": (pans, None), b"ages": (ages, None), b"handfuls": (handfuls, None)}
-COMMANDS |= {b"bag": (bag, 0), b"fall": (fall, 2), b"bags": (bags, 1)}
 
-# ---- the text
+def answer(ring, line, place):
+    if line == b"" or line.startswith(b"#"):
+        return None
+    try:
+        word, numbers = command(line, place)
+        if word == "bag":
+            return bag(ring)
+        if word == "bags":
+            return bags(ring, *numbers, place)
+        if word == "fall":
+            return fall(ring, *numbers, place)
+        setattr(ring, word, numbers)  # rule, pans, ages, handfuls: only kept
+    except Refused as refused:
+        return "refused %d at %d" % refused.args
 
-def number(digits):
-    return MOST if len(digits) > 10 else min(int(digits), MOST)
-
-def read(text, line):
-    """The command of a line, with its numbers."""
-    parts = LINE.fullmatch(text)
-    command, takes = COMMANDS.get(parts[1], (None, None)) if parts else (None, None)
-    numbers = [number(digits) for digits in parts[2].split()] if command else []
-    if command is None or takes not in (None, len(numbers)):
-        raise Refused(4, line)
-    return command, numbers
-
-def lines_of(data):
-    """A line ends at a line feed; the last one needs none."""
-    lines = data.split(b"\n")
-    return lines if lines[-1] else lines[:-1]
 
 def answers(data):
-    """What the program prints for the bytes of its input."""
-    desk, printed = Desk(), []
-    for line, text in enumerate(lines_of(data)):
-        if text == b"" or text.startswith(b"#"):
-            continue
-        try:
-            command, numbers = read(text, line)
-            answer = command(desk, numbers, line)
-        except Refused as refused:
-            answer = f"refused {refused.number} at {refused.place}"
-        if answer is not None:
-            printed.append(answer + "\n")
-    return "".join(printed).encode()
+    lines = data.split(b"\n")
+    if lines[-1] == b"":
+        lines.pop()  # what is left behind the last line end is no line
+    ring = Ring()
+    said = [answer(ring, line, place) for place, line in enumerate(lines)]
+    return b"".join(s.encode("ascii") + b"\n" for s in said if s is not None)
+
 
 if __name__ == "__main__":
     sys.stdout.buffer.write(answers(sys.stdin.buffer.read()))
