@@ -27,7 +27,8 @@ impl<'a> Finder for Rooms<'a> {
     // else the scan, which takes no room at all.
     fn best(&mut self, ring: Ring) -> Option<Bag> {
         let takes = halves::room_for(ring.weights.len());
-        if table::room_for(ring) <= self.bytes.len().min(PAYS * takes) {
+        let most = self.bytes.len().min(PAYS * takes);
+        if table::most_room_for(ring) <= most || table::room_for(ring) <= most {
             table::best(ring, self.bytes)
         } else if takes <= self.entries.len() {
             halves::best(ring, self.entries)

@@ -52,6 +52,9 @@ impl<'a> Finder for Table<'a> {
     ghost lacks = { λ s r ws as'. bytes_lacked r ws as' (length s.bytes.now) };
 
     fn suffices(&self, ring: Ring) -> Result<(), Refusal> {
+        if table::most_room_for(ring) <= self.bytes.len() {
+            return Ok(());
+        }
         let takes = table::room_for(ring);
         Refusal::unless_room(takes, self.bytes.len())
     }

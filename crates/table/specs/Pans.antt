@@ -13,6 +13,7 @@
 --   pad_of           the bytes in front of a row: as far as two pans can reach back, or a whole row, if that is less
 --   row_bytes        the bytes of a row with those in front
 --   table_bytes      the bytes of a table: a row for no pan at all and one for each two pans
+--   most_bytes       the most that a table of so many pans takes under a rule
 use Rattle.std.specs.Prelude.{ℕ, ◌+◌, ◌-◌, ◌*◌, ◌/◌, min, max, Bool, true, cond, ◌&&◌, ◌||◌, List, [], ◌∷◌, length, drop, nat_le, nat_lt, slice_index}
 use Rattle.choices.specs.declared.rule.Rule.{Rule}
 
@@ -66,3 +67,6 @@ row_bytes most heavy = pad_of most heavy + width_of most
 
 unfoldable pub table_bytes : Rule → (weights ages : List ℕ) → ℕ
 table_bytes r ws as' = row_bytes (span_of r ws as') (heaviest r.age ws as') * (pairs_of (length ws) + 1)
+
+abbrev pub most_bytes : Rule → (pans : ℕ) → ℕ
+most_bytes r n = 2 * width_of (r.target + r.above) * (pairs_of n + 1)

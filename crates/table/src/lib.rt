@@ -11,4 +11,4 @@ mod shape;
 mod survey;
 
 pub use answer::best;
-pub use look::room_for;
+pub use look::{most_room_for, room_for};

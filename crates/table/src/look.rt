@@ -1,10 +1,10 @@
 // One look over a ring's pans for its table.
-ghost use Rattle.table.specs.Pans.{table_bytes};
+ghost use Rattle.table.specs.Pans.{most_bytes, table_bytes};
 ghost use Rattle.table.specs.Surveyed.{Surveyed};
-ghost use Rattle.std.specs.Prelude.{◌≡◌};
+ghost use Rattle.std.specs.Prelude.{◌≡◌, ◌≤◌, length};
 
 use crate::pans::pairs;
-use crate::shape::Shape;
+use crate::shape::{Shape, width_of};
 use crate::survey::Survey;
 use choices::Ring;
 
@@ -26,4 +26,14 @@ pub fn room_for(ring: Ring) -> usize
     let seen = survey(ring);
     let shape = Shape::of(seen.span(ring.rule), seen.heaviest as usize);
     shape.wide() * (pairs(ring) + 1)
+}
+
+// No table takes more bytes under such a rule, of so many pans: with it a lent room that is long enough is known without a look
+// over the pans.
+pub fn most_room_for(ring: Ring) -> usize
+    ensures is { result ≡ most_bytes ring.entry.rule (length ring.entry.weights.now) }
+    ensures enough { table_bytes ring.entry.rule ring.entry.weights.now ring.entry.ages.now ≤ result }
+{
+    let rule = ring.rule;
+    2 * width_of((rule.target + rule.above) as usize) * (pairs(ring) + 1)
 }

@@ -17,7 +17,7 @@ pub struct Shape {
 }
 
 // Whole blocks that hold a byte for every weight up to a span.
-fn width_of(span: usize) -> usize
+pub fn width_of(span: usize) -> usize
     requires { span ≤ 2000000 }
     ensures { result ≡ width_of span }
 {
