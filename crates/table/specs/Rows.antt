@@ -1,18 +1,20 @@
 -- What the rows of a table hold. Assumes nothing: these are definitions.
---   row_at     what the row whose weight 0 stands at a place holds for a weight
---   back       what a row holds a pan's weight further to the front; 255 where no weight is
---   joined     the least of what it holds without a pan, and with it and one pan more
---   Makes      a choice of some pans that opens every pan that has to be opened and none that is empty, and weighs so
---              much more than the pans that have to be opened
---   Least      the least number of pans, beside those that have to be opened, in such a choice; 255: there is none
---   Row        a row holds it for every weight that matters: from a lowest one up to the span
---   Rows       for each two pans from the first ones on, the row of the pans from there on; it lies behind the rows of fewer
---              pans, and has so many bytes of 255 in front. What matters is what the free pans before can't make up for
---   Reaches    two pans that stand side by side reach back no further than the bytes in front, or no weight of a row does
---   First      of the choices that weigh so much, the one of the fewest pans that opens the first pan that differs
---   Read       that choice, by its number
---   Lightest   the first weight of a window for which a row holds a count within a limit, or that there is none
-use Rattle.std.specs.Prelude.{◌≡◌, ℕ, ◌+◌, ◌-◌, ◌*◌, ◌<◌, ◌≤◌, min, true, false, cond, List, length, drop, Some, None, Option, nat_le, slice_index, slice_index_or}
+--   row_at         what the row whose weight 0 stands at a place holds for a weight
+--   back           what a row holds a pan's weight further to the front; 255 where no weight is
+--   joined         the least of what it holds without a pan, and with it and one pan more
+--   first_opens    whether the first of two pans is opened for its weight: the rest then takes fewer pans
+--   second_opens   whether the second one is, where it is known of the first
+--   Makes          a choice of some pans that opens every pan that has to be opened and none that is empty, and weighs so
+--                  much more than the pans that have to be opened
+--   Least          the least number of pans, beside those that have to be opened, in such a choice; 255: there is none
+--   Row            a row holds it for every weight that matters: from a lowest one up to the span
+--   Rows           for each two pans from the first ones on, the row of the pans from there on; it lies behind the rows of fewer
+--                  pans, and has so many bytes of 255 in front. What matters is what the free pans before can't make up for
+--   Reaches        two pans that stand side by side reach back no further than the bytes in front, or no weight of a row does
+--   First          of the choices that weigh so much, the one of the fewest pans that opens the first pan that differs
+--   Read           that choice, by its number
+--   Lightest       the first weight of a window for which a row holds a count within a limit, or that there is none
+use Rattle.std.specs.Prelude.{◌≡◌, ℕ, ◌+◌, ◌-◌, ◌*◌, ◌<◌, ◌≤◌, min, Bool, true, false, cond, List, length, drop, Some, None, Option, nat_le, nat_lt, slice_index, slice_index_or}
 use Rattle.choices.specs.Choice.{Choice, weight_of, opened, none_empty, keeps_old}
 use Rattle.choices.specs.Numbered.{number_of}
 use Rattle.order.specs.Order.{first_more}
@@ -26,6 +28,13 @@ back row w x = cond (nat_le w x) (row (x - w)) 255
 
 abbrev pub joined : (ℕ → ℕ) → (weight x : ℕ) → ℕ
 joined row w x = min (row x) (min (back row w x + 1) 255)
+
+-- beside the row of both pans and of those behind, and that of those behind alone
+abbrev pub first_opens : (whole behind : ℕ → ℕ) (first second x : ℕ) → Bool
+first_opens whole behind u v x = nat_lt (back (joined behind v) u x) (whole x)
+
+abbrev pub second_opens : (first_opened : Bool) (whole behind : ℕ → ℕ) (first second x : ℕ) → Bool
+second_opens o whole behind u v x = cond o (nat_lt (back behind (u + v) x) (back (joined behind v) u x)) (nat_lt (back behind v x) (whole x))
 
 pub record Makes (old : ℕ) (ws as' : List ℕ) (x : ℕ) (cs : Choice) : Type 0 where
   pub whole : length cs ≡ length ws

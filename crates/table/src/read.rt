@@ -1,8 +1,8 @@
 // A ring's table in a lent room, and the bag read off it: its weight, and the pans from the first on.
-ghost use Rattle.std.specs.Prelude.{◌≡◌, ℕ, ◌+◌, ◌-◌, ◌*◌, ◌^◌, ◌<◌, ◌≤◌, true, cond, length, nat_lt, slice_index};
+ghost use Rattle.std.specs.Prelude.{◌≡◌, ℕ, ◌+◌, ◌-◌, ◌*◌, ◌^◌, ◌<◌, ◌≤◌, true, cond, length, slice_index};
 ghost use Rattle.choices.specs.Choice.{bit};
 ghost use Rattle.table.specs.Pans.{due_at, free_at, none_due_empty, pairs_of};
-ghost use Rattle.table.specs.Rows.{Lightest, Reaches, Read, Rows, back, joined, row_at};
+ghost use Rattle.table.specs.Rows.{Lightest, Reaches, Read, Rows, first_opens, row_at, second_opens};
 
 use crate::pans::pairs;
 use crate::shape::Shape;
@@ -59,8 +59,8 @@ impl Table<'_, '_> {
         requires small { (first ≤ 1000000) × (second ≤ 1000000) }
         requires reach { self.shape.pad < first + second → left < self.shape.pad }
         requires blank { (j : ℕ) → j < self.shape.pad → slice_index self.bytes.now (row - (self.shape.pad + 64 * self.shape.blocks) - self.shape.pad + j) ≡ 255 }
-        ensures first { result.0 ≡ nat_lt (back (joined (row_at self.entry.bytes.now (row - (self.entry.shape.pad + 64 * self.entry.shape.blocks))) second) first left) (row_at self.entry.bytes.now row left) }
-        ensures second { result.1 ≡ cond result.0 (nat_lt (back (row_at self.entry.bytes.now (row - (self.entry.shape.pad + 64 * self.entry.shape.blocks))) (first + second) left) (back (joined (row_at self.entry.bytes.now (row - (self.entry.shape.pad + 64 * self.entry.shape.blocks))) second) first left)) (nat_lt (back (row_at self.entry.bytes.now (row - (self.entry.shape.pad + 64 * self.entry.shape.blocks))) second left) (row_at self.entry.bytes.now row left)) }
+        ensures first { result.0 ≡ first_opens (row_at self.entry.bytes.now row) (row_at self.entry.bytes.now (row - (self.entry.shape.pad + 64 * self.entry.shape.blocks))) first second left }
+        ensures second { result.1 ≡ second_opens result.0 (row_at self.entry.bytes.now row) (row_at self.entry.bytes.now (row - (self.entry.shape.pad + 64 * self.entry.shape.blocks))) first second left }
     {
         let pad = self.shape.pad;
         let rest = row - self.shape.wide() + left;
