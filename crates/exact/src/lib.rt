@@ -9,3 +9,4 @@ mod picks;
 mod tables;
 
 pub use answer::best;
+pub use due::{Due, due_pans};

@@ -3,5 +3,6 @@ mod Joining
 mod Making
 mod Surveying
 mod Filling
+mod Dues
 mod Reading
 mod Bests

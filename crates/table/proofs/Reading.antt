@@ -1,8 +1,8 @@
 -- The choice that is read off the rows, pan by pan: what is read so far, with the first choice of what is left, is the first of all.
-use Rattle.std.proofs.Common.{◌≡◌, ℕ, ◌+◌, ◌-◌, ◌*◌, ◌^◌, ◌<◌, ◌≤◌, Bool, true, false, cond, ◌||◌, eqb, ltb, leb, ◌⊎◌, List, [], ◌∷◌, length, get_or, drop, sym, refl, ◌∙◌, inl, inr, add-one, arith}
+use Rattle.std.proofs.Common.{◌≡◌, ℕ, ◌+◌, ◌-◌, ◌*◌, ◌^◌, ◌<◌, ◌≤◌, Bool, true, false, cond, ◌||◌, ltb, leb, ◌⊎◌, List, [], ◌∷◌, length, get_or, drop, sym, refl, ◌∙◌, inl, inr, add-one, arith}
 use native.Mathlib.Nat.{pow-succ'}
 use Rattle.std.proofs.lemmas.List.{drop_all}
-use Rattle.std.proofs.lemmas.Bool.{cases_lt, and_parts, le-ltb, lt-ltb, ltb-true, ltb-false, leb-true, leb-false}
+use Rattle.std.proofs.lemmas.Bool.{cases_lt, and_parts, both_ways, le-ltb, lt-ltb, lt-leb, ltb-true, ltb-false, leb-true, leb-false}
 use Rattle.choices.specs.Choice.{Choice, bit, opened}
 use Rattle.choices.specs.Numbered.{number_of}
 use Rattle.choices.proofs.Numbers.{marks_more}
@@ -10,6 +10,8 @@ use Rattle.table.specs.Pans.{due_at, due_pans, free_at, free_before, none_due_em
 use Rattle.table.specs.Rows.{Makes, Least, First, Row, Rows, Read, back, joined, row_at}
 use Rattle.table.proofs.Joining.{back_far, back_near, back_both}
 use Rattle.table.proofs.Making.{first_due, first_open, first_shut, first_nothing, least_due_rest, least_one, least_shut}
+use Rattle.table.proofs.Dues.{dues_two}
+use Rattle.exact.specs.Pans.{due_of}
 use Rattle.table.proofs.Filling.{Kind, kind, free, idle, drop_weights, drop_ages, no_weights, no_ages, before_next, none_due_at, row_next}
 
 -- the pans before i are read; x is the weight of the whole, left what is left of it, and so many free pans make that
@@ -54,11 +56,6 @@ stepped old ws as' pan weight with left count pans o is rest number = at o is re
             Stepped old ws as' pan weight with left count pans left' count pans'
         kept true e rest n = due (ltb-false with count (sym is)) e (omega (arith, rest)) refl (omega (arith, n))
         kept false e rest n = stays (ltb-false with count (sym is)) e (omega (arith, rest)) refl (omega (arith, n))
-
--- a mark is 1 where there is one
-pub marked : {n : ℕ} (d : Bool) → n ≡ bit d → eqb n 1 ≡ d
-marked true e = rw e refl
-marked false e = rw e refl
 
 -- the number with one pan more is small
 pub small_more : (i pans : ℕ) (c : Bool) → pans < 2 ^ i → pans + bit c * 2 ^ i < 2 ^ (i + 1)
@@ -149,6 +146,42 @@ module _
                 ended [] g = let k = h.goes [] (rw (no_weights old ws as' i paired past, no_ages old ws as' i paired past) g) in (k.0, k.1, omega (arith, k.2))
                 ended (c ∷ cs) g = absurd (omega (arith, g.makes.whole))
 
+    -- a pan that the rows leave out is not opened for its weight
+    idle_opened :
+        {with : ℕ} {f : ℕ → ℕ} → Row old (drop (i + 1) ws) (drop (i + 1) as') (x - free_before old ws as' (i + 1)) most f → with ≡ back f (free_at old ws as' i) left → with < count →
+        free_at old ws as' i ≡ 0 → ((y k : ℕ) → Least old (drop (i + 1) ws) (drop (i + 1) as') y k → Least old (drop i ws) (drop i as') y k) → ⊥
+    idle_opened {with} {f} rest is fewer e goes = omega (arith, fewer, here, same, h.some)
+      where
+        here : with ≡ f left
+        here = let z : left - 0 ≡ left = omega arith in is ∙ rw (e, back_near f 0 left (omega arith), z) refl
+
+        same : f left < 255 → count ≤ f left
+        same below = least_one h.least (goes left (f left) (rest.least left (omega (arith, h.reach, later, e)) h.within)) below
+
+    -- nor is one that has to be opened
+    opened_young :
+        {with : ℕ} {f : ℕ → ℕ} → none_due_empty old ws as' ≡ true → Row old (drop (i + 1) ws) (drop (i + 1) as') (x - free_before old ws as' (i + 1)) most f →
+        with ≡ back f (free_at old ws as' i) left → with < count → due_at old ws as' i ≡ false
+    opened_young {with} {f} ready rest is fewer = at (kind old ws as' i paired ready)
+      where
+        at : Kind old ws as' i paired → due_at old ws as' i ≡ false
+        at (idle e goes) = absurd (idle_opened rest is fewer e goes)
+        at (free few young full lies) = rw (lt-ltb i (length ws) few, lt-leb old (get_or as' i 0) (ltb-true (get_or as' i 0) old young)) refl
+
+    -- so no pan is marked twice
+    pub marked_once :
+        {with : ℕ} {f : ℕ → ℕ} (o : Bool) → none_due_empty old ws as' ≡ true → Row old (drop (i + 1) ws) (drop (i + 1) as') (x - free_before old ws as' (i + 1)) most f →
+        with ≡ back f (free_at old ws as' i) left → o ≡ ltb with count → bit (due_at old ws as' i || o) ≡ bit (due_at old ws as' i) + bit o
+    marked_once {with} o ready rest is e = at (due_at old ws as' i) o refl e
+      where
+        at : (d o : Bool) → due_at old ws as' i ≡ d → o ≡ ltb with count → bit (d || o) ≡ bit d + bit o
+        at true true waits e =
+            let young : due_at old ws as' i ≡ false = opened_young ready rest is (ltb-true with count (sym e)) in
+            absurd (both_ways (due_at old ws as' i) young waits)
+        at true false _ _ = refl
+        at false true _ _ = refl
+        at false false _ _ = refl
+
     -- one pan more is read, beside the row of the pans behind it
     pub reading_next :
         {with left' count' pans' : ℕ} {f : ℕ → ℕ} → none_due_empty old ws as' ≡ true →
@@ -157,13 +190,7 @@ module _
     reading_next {with} {left'} {count'} {pans'} {f} ready rest is s = at s
       where
         opened' : with < count → left' ≡ left - free_at old ws as' i → count' ≡ with → pans' ≡ pans + 2 ^ i → Kind old ws as' i paired → Reading old ws as' most x (i + 1) left' count' pans'
-        opened' fewer to many number (idle e goes) = absurd (omega (arith, fewer, here, same, h.some))
-          where
-            here : with ≡ f left
-            here = let z : left - 0 ≡ left = omega arith in is ∙ rw (e, back_near f 0 left (omega arith), z) refl
-
-            same : f left < 255 → count ≤ f left
-            same below = least_one h.least (goes left (f left) (rest.least left (omega (arith, h.reach, later, e)) h.within)) below
+        opened' fewer to many number (idle e goes) = absurd (idle_opened rest is fewer e goes)
         opened' fewer to many number (free few young full lies) =
             next true few (omega arith) (rw (at', many, value) behind) (omega (arith, h.some)) (omega (arith, h.within)) (omega (arith, h.reach, later, lies, near, to))
             (λ cs g. first_open young full near (whole few) h.some behind (omega (arith, fewer, value)) (rw at' at g))
@@ -227,21 +254,30 @@ module _
         at false true e f = omega (arith, back_within (row_at bytes row) v left (omega (arith, ltb-true (back (row_at bytes row) v left) count (sym f), h.some)))
         at false false e f = omega arith
 
+    -- with the number that is read, beside the pans that have to be opened and are not reached yet
     pub reading_two :
-        (left'' pans' pans'' : ℕ) {left count pans : ℕ} {o o' : Bool} → Reading old ws as' most x (2 * pair) left count pans →
+        (left'' : ℕ) {left count pans : ℕ} {o o' : Bool} → Reading old ws as' most x (2 * pair) left count pans →
         o ≡ ltb (back (joined (row_at bytes row) (free_at old ws as' (2 * pair + 1))) (free_at old ws as' (2 * pair)) left) count →
         o' ≡ cond o (ltb (back (row_at bytes row) ((free_at old ws as' (2 * pair)) + (free_at old ws as' (2 * pair + 1))) left) (back (joined (row_at bytes row) (free_at old ws as' (2 * pair + 1))) (free_at old ws as' (2 * pair)) left)) (ltb (back (row_at bytes row) (free_at old ws as' (2 * pair + 1)) left) count) →
-        left'' ≡ left - (cond o (free_at old ws as' (2 * pair)) 0 + cond o' (free_at old ws as' (2 * pair + 1)) 0) → pans' ≡ pans + bit (due_at old ws as' (2 * pair) || o) * 2 ^ (2 * pair) →
-        pans'' ≡ pans' + bit (due_at old ws as' (2 * pair + 1) || o') * 2 ^ (2 * pair + 1) →
-        Reading old ws as' most x (2 * (pair + 1)) left'' (row_at bytes row left'') pans''
-    reading_two left'' pans' pans'' {left} {count} {pans} {o} {o'} h is is' rest number number' =
+        left'' ≡ left - (cond o (free_at old ws as' (2 * pair)) 0 + cond o' (free_at old ws as' (2 * pair + 1)) 0) →
+        (pans'' : ℕ) × Reading old ws as' most x (2 * (pair + 1)) left'' (row_at bytes row left'') pans''
+        × (pans + 2 ^ (2 * pair) * number_of (due_of old (drop (2 * pair) as')) + (bit o * 2 ^ (2 * pair) + bit o' * 2 ^ (2 * pair + 1))
+        ≡ pans'' + 2 ^ (2 * (pair + 1)) * number_of (due_of old (drop (2 * (pair + 1)) as')))
+    reading_two left'' {left} {count} {pans} {o} {o'} h is is' rest =
+        let i : ℕ = 2 * pair in
+        let pans' : ℕ = pans + bit (due_at old ws as' i || o) * 2 ^ i in
+        let pans'' : ℕ = pans' + bit (due_at old ws as' (i + 1) || o') * 2 ^ (i + 1) in
+        let first = row_next old ws as' (2 * pair + 1) paired x ready behind in
         let one : Reading old ws as' most x (2 * pair + 1) (left - cond o (free_at old ws as' (2 * pair)) 0) (cond o (back (joined (row_at bytes row) (free_at old ws as' (2 * pair + 1))) (free_at old ws as' (2 * pair)) left) count) pans'
-        = reading_next h paired ready (row_next old ws as' (2 * pair + 1) paired x ready behind) refl
-        (stepped old ws as' (2 * pair) (free_at old ws as' (2 * pair)) (back (joined (row_at bytes row) (free_at old ws as' (2 * pair + 1))) (free_at old ws as' (2 * pair)) left) left count pans o is refl number) in
+        = reading_next h paired ready first refl
+        (stepped old ws as' (2 * pair) (free_at old ws as' (2 * pair)) (back (joined (row_at bytes row) (free_at old ws as' (2 * pair + 1))) (free_at old ws as' (2 * pair)) left) left count pans o is refl refl) in
         let both : Reading old ws as' most x (2 * pair + 1 + 1) left'' (cond o' (back (row_at bytes row) (free_at old ws as' (2 * pair + 1)) (left - cond o (free_at old ws as' (2 * pair)) 0)) (cond o (back (joined (row_at bytes row) (free_at old ws as' (2 * pair + 1))) (free_at old ws as' (2 * pair)) left) count)) pans''
         = reading_next one paired ready behind refl
-        (stepped old ws as' (2 * pair + 1) (free_at old ws as' (2 * pair + 1)) (back (row_at bytes row) (free_at old ws as' (2 * pair + 1)) (left - cond o (free_at old ws as' (2 * pair)) 0)) (left - cond o (free_at old ws as' (2 * pair)) 0) (cond o (back (joined (row_at bytes row) (free_at old ws as' (2 * pair + 1))) (free_at old ws as' (2 * pair)) left) count) pans' o' (is' ∙ beside o is) (omega (arith, rest)) number') in
-        rw two (reading_same both (behind.least left'' (omega (arith, both.reach)) both.within))
+        (stepped old ws as' (2 * pair + 1) (free_at old ws as' (2 * pair + 1)) (back (row_at bytes row) (free_at old ws as' (2 * pair + 1)) (left - cond o (free_at old ws as' (2 * pair)) 0)) (left - cond o (free_at old ws as' (2 * pair)) 0) (cond o (back (joined (row_at bytes row) (free_at old ws as' (2 * pair + 1))) (free_at old ws as' (2 * pair)) left) count) pans' o' (is' ∙ beside o is) (omega (arith, rest)) refl) in (
+          pans'',
+          rw two (reading_same both (behind.least left'' (omega (arith, both.reach)) both.within)),
+          dues_two old ws as' pair pans o o' paired (marked_once h paired o ready first refl is) (marked_once one paired o' ready behind refl (is' ∙ beside o is)),
+        )
       where
         -- what the rest takes without the second pan and with it
         beside : (o : Bool) → o ≡ ltb (back (joined (row_at bytes row) (free_at old ws as' (2 * pair + 1))) (free_at old ws as' (2 * pair)) left) count → cond o (ltb (back (row_at bytes row) ((free_at old ws as' (2 * pair)) + (free_at old ws as' (2 * pair + 1))) left) (back (joined (row_at bytes row) (free_at old ws as' (2 * pair + 1))) (free_at old ws as' (2 * pair)) left)) (ltb (back (row_at bytes row) (free_at old ws as' (2 * pair + 1)) left) count) ≡ ltb (back (row_at bytes row) (free_at old ws as' (2 * pair + 1)) (left - cond o (free_at old ws as' (2 * pair)) 0)) (cond o (back (joined (row_at bytes row) (free_at old ws as' (2 * pair + 1))) (free_at old ws as' (2 * pair)) left) count)

@@ -6,7 +6,7 @@ ghost use Rattle.table.specs.Pans.{table_bytes};
 ghost use Rattle.table.specs.Surveyed.{Surveyed};
 
 use crate::look::survey;
-use crate::pans::{due_of, free_of};
+use crate::pans::{due_number, free_of};
 use crate::read::Table;
 use crate::rows::fill;
 use crate::shape::Shape;
@@ -55,7 +55,7 @@ fn by_rows(ring: Ring, seen: Survey, room: &mut [u8]) -> Option<Bag>
     let limit = (rule.pans - seen.held).min(254) as u8;
     let x = table.lightest(from, limit)?;
     Some(Bag {
-        pans: table.read(&free, &due_of(ring), x),
+        pans: table.read(&free, due_number(ring, seen.held), x),
         weight: seen.due + x as u32,
     })
 }

@@ -1,6 +1,7 @@
 // What a pan is to the rows.
-ghost use Rattle.choices.specs.Choice.{bit};
-ghost use Rattle.table.specs.Pans.{due_at, free_at, pairs_of};
+ghost use Rattle.choices.specs.Numbered.{number_of};
+ghost use Rattle.exact.specs.Pans.{due_of};
+ghost use Rattle.table.specs.Pans.{due_pans, free_at, pairs_of};
 ghost use Rattle.std.specs.Prelude.{◌≡◌, ℕ, ◌<◌, length, slice_index};
 
 use choices::Ring;
@@ -12,19 +13,20 @@ pub fn pairs(ring: Ring) -> usize
     (ring.weights.len() + 1) / 2
 }
 
-// Which pans have to be opened, each as a 1; one that is not there has not. By index: a zip of two lists ends in two ways, and such a
-// loop takes no four pans at once.
-pub fn due_of(ring: Ring) -> [u32; 24]
-    ensures { (i : ℕ) → i < 24 → slice_index result i ≡ bit (due_at ring.entry.rule.age ring.entry.weights.now ring.entry.ages.now i) }
+// The pans that have to be opened, as the number that is answered; seldom is there one.
+pub fn due_number(ring: Ring, held: u32) -> u32
+    requires { held ≡ due_pans ring.rule.age ring.ages.now }
+    ensures { result ≡ number_of (due_of ring.entry.rule.age ring.entry.ages.now) }
 {
-    let mut due = [0; 24];
-    for pan in 0..ring.weights.len() {
-        due[pan] = u32::from(ring.ages[pan] >= ring.rule.age);
+    if held == 0 {
+        0
+    } else {
+        exact::due_pans(ring).number
     }
-    due
 }
 
-// What lies in each pan that may be opened or stay shut; nothing in one that has to be opened, or is not there.
+// What lies in each pan that may be opened or stay shut; nothing in one that has to be opened, or is not there. By index: a zip of two
+// lists ends in two ways, and such a loop takes no four pans at once.
 pub fn free_of(ring: Ring) -> [u32; 24]
     ensures { (i : ℕ) → i < 24 → slice_index result i ≡ free_at ring.entry.rule.age ring.entry.weights.now ring.entry.ages.now i }
 {

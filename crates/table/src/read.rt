@@ -1,7 +1,9 @@
 // A ring's table in a lent room, and the bag read off it: its weight, and the pans from the first on.
 ghost use Rattle.std.specs.Prelude.{◌≡◌, ℕ, ◌+◌, ◌-◌, ◌*◌, ◌^◌, ◌<◌, ◌≤◌, true, cond, length, slice_index};
 ghost use Rattle.choices.specs.Choice.{bit};
-ghost use Rattle.table.specs.Pans.{due_at, free_at, none_due_empty, pairs_of};
+ghost use Rattle.choices.specs.Numbered.{number_of};
+ghost use Rattle.exact.specs.Pans.{due_of};
+ghost use Rattle.table.specs.Pans.{free_at, none_due_empty, pairs_of};
 ghost use Rattle.table.specs.Rows.{Lightest, Reaches, Read, Rows, first_opens, row_at, second_opens};
 
 use crate::pans::pairs;
@@ -64,20 +66,20 @@ impl Table<'_, '_> {
     {
         let pad = self.shape.pad;
         let rest = row - self.shape.wide() + left;
-        let whole = self.bytes[row + left];
-        let alone = self.bytes[rest - first.min(pad)];
-        let other = self.bytes[rest - second.min(pad)];
-        let both = self.bytes[rest - (first + second).min(pad)];
-        let with = alone.min(both.saturating_add(1));
+        let whole = u32::from(self.bytes[row + left]);
+        let alone = u32::from(self.bytes[rest - first.min(pad)]);
+        let other = u32::from(self.bytes[rest - second.min(pad)]);
+        let both = u32::from(self.bytes[rest - (first + second).min(pad)]);
+        let with = alone.min(both + 1);
         let opens = with < whole;
         let also = if opens { both < with } else { other < whole };
         (opens, also)
     }
 
-    // The pans of the choice that makes a weight, as the number that is answered.
-    pub fn read(self, free: &[u32; 24], due: &[u32; 24], weight: usize) -> u32
+    // The pans of the choice that makes a weight, as the number that is answered: those that have to be opened, and what is read.
+    pub fn read(self, free: &[u32; 24], due: u32, weight: usize) -> u32
         requires free { (i : ℕ) → i < 24 → slice_index free.now i ≡ free_at self.ring.rule.age self.ring.weights.now self.ring.ages.now i }
-        requires due { (i : ℕ) → i < 24 → slice_index due.now i ≡ bit (due_at self.ring.rule.age self.ring.weights.now self.ring.ages.now i) }
+        requires due { due ≡ number_of (due_of self.ring.rule.age self.ring.ages.now) }
         requires rows { Rows self.ring.rule.age self.ring.weights.now self.ring.ages.now weight (64 * self.shape.blocks - 1) self.shape.pad (self.shape.pad + 64 * self.shape.blocks) 0 self.bytes.now }
         requires reach { Reaches self.ring.rule.age self.ring.weights.now self.ring.ages.now self.shape.pad (64 * self.shape.blocks) }
         requires within { weight ≤ self.span }
@@ -86,15 +88,14 @@ impl Table<'_, '_> {
     {
         let mut row = self.top();
         let mut left = weight;
-        let mut pans = 0;
+        let mut pans = due;
         for pair in 0..pairs(self.ring) {
             let pan = 2 * pair;
             let first = free[pan] as usize;
             let second = free[pan + 1] as usize;
             let (opens, also) = self.opens(row, left, first, second);
             left -= taken(opens, first) + taken(also, second);
-            pans += mark((due[pan] == 1) | opens, pan);
-            pans += mark((due[pan + 1] == 1) | also, pan + 1);
+            pans += mark(opens, pan) + mark(also, pan + 1);
             row -= self.shape.wide();
         }
         pans

@@ -1,5 +1,5 @@
 -- What is left of the proof of the most bytes that a table takes.
-use Rattle.std.proofs.Common.{◌≡◌, ℕ, ◌+◌, ◌*◌, ◌/◌, ◌≤◌, min, length, mul-le-mul_left, mul_comm, List, arith}
+use Rattle.std.proofs.Common.{ℕ, ◌+◌, ◌*◌, ◌≤◌, length, mul-le-mul_left, mul_comm, List, arith}
 use Rattle.choices.specs.declared.rule.Rule.{Rule}
 use Rattle.table.specs.Pans.{span_of, row_bytes, pad_of, table_bytes, heaviest, width_of, pairs_of, most_bytes}
 use Rattle.table.proofs.look.most_room_for.Goals as goal

@@ -1,5 +1,5 @@
 -- What is left of the proof which of two pans are opened.
-use Rattle.std.proofs.Common.{◌≡◌, ℕ, ◌+◌, ◌-◌, ◌*◌, ◌<◌, ◌≤◌, min, List, get_or, refl, ◌∙◌, arith}
+use Rattle.std.proofs.Common.{◌≡◌, ℕ, ◌+◌, ◌-◌, ◌<◌, ◌≤◌, min, List, get_or, refl, ◌∙◌, arith}
 use Rattle.std.proofs.lemmas.Bool.{le-ltb, lt-ltb}
 use Rattle.table.specs.Rows.{back, joined, row_at}
 use Rattle.table.proofs.Joining.{shifted, back_joined}
@@ -16,26 +16,33 @@ module _
 
     -- what the rest takes with the first pan
     with_first :
-        (u v : ℕ) {one both more with : ℕ} → one ≡ min u pad → both ≡ min (u + v) pad → (pad < u + v → left < pad) →
-        more ≡ min (get_or bytes (row - wide + left - both) 0 + 1) 255 → with ≡ min (get_or bytes (row - wide + left - one) 0) more →
-        with ≡ back (joined (row_at bytes (row - whole)) v) u left
-    with_first u v first second reach e f =
-        f ∙ rw (e, place u first (λ far. reach (omega (arith, far))), place (u + v) second reach) (back_joined (row_at bytes (row - whole)) u v left)
+        (u v : ℕ) {one both alone more with : ℕ} → one ≡ min u pad → both ≡ min (u + v) pad → (pad < u + v → left < pad) →
+        alone ≡ get_or bytes (row - wide + left - one) 0 → alone ≤ 255 → more ≡ get_or bytes (row - wide + left - both) 0 →
+        with ≡ min alone (more + 1) → with ≡ back (joined (row_at bytes (row - whole)) v) u left
+    with_first u v {alone = alone} {more} {with} first second reach a byte m e =
+        capped ∙ rw (a, m, place u first (λ far. reach (omega (arith, far))), place (u + v) second reach) (back_joined (row_at bytes (row - whole)) u v left)
+      where
+        capped : with ≡ min alone (min (more + 1) 255)
+        capped = omega (arith, e, byte)
 
 pub returns-then-opens-clause-first : goal.returns-then-opens-clause-first
 returns-then-opens-clause-first c =
     let r = c.requires in
-    rw (with_first c.args.self.bytes.now c.args.row _ c.args.self.shape.pad c.args.left c.wide.ensures r.row r.blank c.args.first c.args.second c.min.ensures
-    c.min-3.ensures r.reach c.saturating_add.ensures c.min-with.ensures) refl
+    rw (
+      c.from-whole.ensures,
+      with_first c.args.self.bytes.now c.args.row _ c.args.self.shape.pad c.args.left c.wide.ensures r.row r.blank c.args.first c.args.second c.min.ensures
+          c.min-3.ensures r.reach c.from-alone.ensures (omega arith) c.from-both.ensures c.min-with.ensures,
+    ) refl
 
 pub returns-then-opens-clause-second : goal.returns-then-opens-clause-second
 returns-then-opens-clause-second c =
     let r = c.requires in
     let with =
     with_first c.args.self.bytes.now c.args.row _ c.args.self.shape.pad c.args.left c.wide.ensures r.row r.blank c.args.first c.args.second c.min.ensures
-    c.min-3.ensures r.reach c.saturating_add.ensures c.min-with.ensures in
+    c.min-3.ensures r.reach c.from-alone.ensures (omega arith) c.from-both.ensures c.min-with.ensures in
     rw (
       lt-ltb _ _ c.if-opens.true,
+      c.from-both.ensures,
       place c.args.self.bytes.now c.args.row _ c.args.self.shape.pad c.args.left c.wide.ensures r.row r.blank (c.args.first + c.args.second) c.min-3.ensures r.reach,
       with,
     ) refl
@@ -45,5 +52,7 @@ returns-else-opens-clause-second c =
     let r = c.requires in
     rw (
       le-ltb _ _ c.if-opens.false,
+      c.from-whole.ensures,
+      c.from-other.ensures,
       place c.args.self.bytes.now c.args.row _ c.args.self.shape.pad c.args.left c.wide.ensures r.row r.blank c.args.second c.min-2.ensures (λ far. r.reach (omega (arith, far))),
     ) refl
