@@ -1,5 +1,5 @@
 -- The pans that have to be opened, as a number: what is left of it from a pan on.
-use Rattle.std.proofs.Common.{◌≡◌, ℕ, ◌+◌, ◌-◌, ◌*◌, ◌^◌, ◌<◌, ◌≤◌, Bool, true, false, cond, not, ◌||◌, ltb, leb, ◌⊎◌, List, [], ◌∷◌, length, get_or, drop, refl, inl, inr, length-drop, mul-le-mul_left, mul-add, mul-one, add-one, arith}
+use Rattle.std.proofs.Common.{◌≡◌, ℕ, ◌+◌, ◌-◌, ◌*◌, ◌^◌, ◌<◌, ◌≤◌, Bool, true, false, cond, not, ◌&&◌, ◌||◌, ltb, leb, ◌⊎◌, List, [], ◌∷◌, length, get_or, drop, refl, inl, inr, length-drop, mul-le-mul_left, mul-add, mul-one, add-one, arith}
 use native.Mathlib.Nat.{pow-succ'}
 use Rattle.std.proofs.lemmas.Nat.{pow-add}
 use Rattle.std.proofs.lemmas.List.{drop_all}
@@ -9,8 +9,12 @@ use Rattle.choices.specs.Choice.{bit}
 use Rattle.choices.specs.Numbered.{number_of}
 use Rattle.choices.proofs.Numbers.{number_lt}
 use Rattle.exact.specs.Pans.{due_of}
-use Rattle.table.specs.Pans.{due_at, due_pans}
+use Rattle.table.specs.Pans.{due_pans}
 use Rattle.table.proofs.Filling.{drop_ages, no_ages}
+
+-- whether there is such a pan, and it has to be opened
+abbrev pub due_at : ℕ → (weights ages : List ℕ) → (pan : ℕ) → Bool
+due_at old ws as' i = ltb i (length ws) && leb old (get_or as' i 0)
 
 -- where none is counted none is numbered
 pub none_due : (old : ℕ) (as' : List ℕ) → due_pans old as' ≡ 0 → number_of (due_of old as') ≡ 0

@@ -6,11 +6,11 @@ use Rattle.std.proofs.lemmas.Bool.{cases_lt, and_parts, both_ways, le-ltb, lt-lt
 use Rattle.choices.specs.Choice.{Choice, bit, opened}
 use Rattle.choices.specs.Numbered.{number_of}
 use Rattle.choices.proofs.Numbers.{marks_more}
-use Rattle.table.specs.Pans.{due_at, due_pans, free_at, free_before, none_due_empty, pairs_of}
+use Rattle.table.specs.Pans.{due_pans, free_at, free_before, none_due_empty, pairs_of}
 use Rattle.table.specs.Rows.{Makes, Least, First, Row, Rows, Read, back, joined, row_at}
 use Rattle.table.proofs.Joining.{back_far, back_near, back_both}
 use Rattle.table.proofs.Making.{first_due, first_open, first_shut, first_nothing, least_due_rest, least_one, least_shut}
-use Rattle.table.proofs.Dues.{dues_two}
+use Rattle.table.proofs.Dues.{due_at, dues_two}
 use Rattle.exact.specs.Pans.{due_of}
 use Rattle.table.proofs.Filling.{Kind, kind, free, idle, drop_weights, drop_ages, no_weights, no_ages, before_next, none_due_at, row_next}
 

@@ -1,7 +1,6 @@
 -- What the pans of a ring are to its table. Assumes nothing: these are definitions.
 --   due_weight       what the pans weigh that have waited so many bags, or more: they have to be opened
 --   due_pans         how many they are
---   due_at           whether there is such a pan, and it is one of them
 --   free_weight      what the other pans weigh
 --   free_at          what a pan adds to that: nothing, if it has to be opened or is not there
 --   free_before      what the free pans before a pan weigh
@@ -25,9 +24,6 @@ due_weight old (w ∷ ws) (a ∷ as') = cond (nat_lt a old) 0 w + due_weight old
 abbrev pub due_pans : ℕ → (ages : List ℕ) → ℕ
 due_pans old [] = 0
 due_pans old (a ∷ as') = cond (nat_lt a old) 0 1 + due_pans old as'
-
-abbrev pub due_at : ℕ → (weights ages : List ℕ) → (pan : ℕ) → Bool
-due_at old ws as' i = nat_lt i (length ws) && nat_le old (slice_index as' i)
 
 abbrev pub free_weight : ℕ → (weights ages : List ℕ) → ℕ
 free_weight old [] as' = 0
