@@ -50,6 +50,14 @@ dues_next old ws as' i paired = at (cases_lt i (length ws))
 pub dues_all : (old : ℕ) (as' : List ℕ) (i : ℕ) → length as' ≤ i → number_of (due_of old (drop i as')) ≡ 0
 dues_all old as' i past = rw (drop_all i as' past) refl
 
+-- what two pans are marked for is small
+pub marks_small : (i : ℕ) (o o' : Bool) → i + 1 ≤ 24 → bit o * 2 ^ i + bit o' * 2 ^ (i + 1) ≤ 2 ^ 25
+marks_small i o o' low = omega (arith, mark i o (omega (arith, low)), mark (i + 1) o' low)
+  where
+    mark : (k : ℕ) (c : Bool) → k ≤ 24 → bit c * 2 ^ k ≤ 2 ^ 24
+    mark k true few = omega (arith, pow_mono {i = k} {j = 24} few)
+    mark k false few = omega arith
+
 -- what two pans are marked for, beside those that have to be opened: the marks of both, and what is left
 pub dues_two :
     (old : ℕ) (ws as' : List ℕ) (pair pans : ℕ) (o o' : Bool) → length as' ≡ length ws → bit (due_at old ws as' (2 * pair) || o) ≡ bit (due_at old ws as' (2 * pair)) + bit o →

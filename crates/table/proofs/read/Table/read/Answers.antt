@@ -3,7 +3,7 @@ use Rattle.std.proofs.Common.{◌+◌, ◌-◌, ◌*◌, get_or, ◌≡◌, ◌<
 use Rattle.table.specs.Pans.{pairs_of}
 use Rattle.table.proofs.Filling.{row_below, rows_all}
 use Rattle.table.proofs.Reading.{reading_none, reading_two, reading_left, reading_all}
-use Rattle.table.proofs.Dues.{dues_small, dues_all}
+use Rattle.table.proofs.Dues.{marks_small, dues_small, dues_all}
 use Rattle.table.proofs.read.Table.read.Goals as goal
 
 pub loop-pair-init : goal.loop-pair-init
@@ -38,28 +38,14 @@ overflow_sub-row c =
 pub overflow_add-pans : goal.overflow_add-pans
 overflow_add-pans c =
     let few = rw c.pairs-pair-end.ensures at c.loop-pair-test.true in
-    let one = c.requires.free (2 * c.loop-pair.pair) (omega (arith, few, c.args.self.ring.few)) in
-    let other = c.requires.free (2 * c.loop-pair.pair + 1) (omega (arith, few, c.args.self.ring.few)) in
-    let below = row_below _ _ _ _ _ few c.loop-pair.invariant.2 in
-    let h =
-    reading_two c.args.self.ring.paired c.args.self.ready c.requires.rows few below.1 (c.loop-pair.left - (c.taken.result + c.taken-in-loop-pair.result)) c.loop-pair.invariant.1
-    (rw (one, other) at c.opens-opens.ensures.first) (rw (one, other) at c.opens-opens.ensures.second)
-    (omega (arith, rw one at c.taken.ensures, rw other at c.taken-in-loop-pair.ensures)) in
-    let room = dues_small c.args.self.ring.rule.age c.args.self.ring.ages.now (2 * (c.loop-pair.pair + 1)) h.0 (omega (arith, c.args.self.ring.few, c.args.self.ring.paired)) (omega (arith, few, c.args.self.ring.few)) h.1.small in
-    omega (arith, room, h.2, c.mark.ensures, c.mark-in-loop-pair.ensures)
+    omega (arith, marks_small (2 * c.loop-pair.pair) c.opens-opens.result.0 c.opens-opens.result.1 (omega (arith, few, c.args.self.ring.few)), c.mark.ensures, c.mark-in-loop-pair.ensures)
 
 pub overflow_add-pans-in-loop-pair : goal.overflow_add-pans-in-loop-pair
 overflow_add-pans-in-loop-pair c =
     let few = rw c.pairs-pair-end.ensures at c.loop-pair-test.true in
-    let one = c.requires.free (2 * c.loop-pair.pair) (omega (arith, few, c.args.self.ring.few)) in
-    let other = c.requires.free (2 * c.loop-pair.pair + 1) (omega (arith, few, c.args.self.ring.few)) in
-    let below = row_below _ _ _ _ _ few c.loop-pair.invariant.2 in
-    let h =
-    reading_two c.args.self.ring.paired c.args.self.ready c.requires.rows few below.1 (c.loop-pair.left - (c.taken.result + c.taken-in-loop-pair.result)) c.loop-pair.invariant.1
-    (rw (one, other) at c.opens-opens.ensures.first) (rw (one, other) at c.opens-opens.ensures.second)
-    (omega (arith, rw one at c.taken.ensures, rw other at c.taken-in-loop-pair.ensures)) in
-    let room = dues_small c.args.self.ring.rule.age c.args.self.ring.ages.now (2 * (c.loop-pair.pair + 1)) h.0 (omega (arith, c.args.self.ring.few, c.args.self.ring.paired)) (omega (arith, few, c.args.self.ring.few)) h.1.small in
-    omega (arith, room, h.2, c.loop-pair.invariant.3, c.mark.ensures, c.mark-in-loop-pair.ensures)
+    let ring = c.args.self.ring in
+    let read = dues_small ring.rule.age ring.ages.now (2 * c.loop-pair.pair) c.loop-pair.invariant.0 (omega (arith, ring.few, ring.paired)) (omega (arith, few, ring.few)) c.loop-pair.invariant.1.small in
+    omega (arith, read, c.loop-pair.invariant.3, marks_small (2 * c.loop-pair.pair) c.opens-opens.result.0 c.opens-opens.result.1 (omega (arith, few, ring.few)), c.mark.ensures, c.mark-in-loop-pair.ensures)
 
 pub loop-pair-preserved : goal.loop-pair-preserved
 loop-pair-preserved c =
