@@ -1,4 +1,4 @@
-//! The proved engines, linked from the static library of the crate `exports`.
+//! The proved engines, linked from the static library of the crate `c_interface`.
 use crate::ring::{Answer, Ring};
 
 #[repr(C)]

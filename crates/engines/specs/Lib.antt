@@ -1,1 +1,2 @@
--- The engines need no definitions of their own.
+-- The definitions that contracts cite.
+pub mod Lacks

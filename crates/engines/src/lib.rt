@@ -1,6 +1,10 @@
-// Rooms lent for every engine: which of the three finds the best bag in them is decided by size alone.
+//! What finds the best bag of a ring: one promise, and the engines that keep it, each with the room that it is lent.
 #![tactic(auto)]
 
+mod finder;
 mod rooms;
+mod single;
 
+pub use finder::Finder;
 pub use rooms::Rooms;
+pub use single::{Halves, Scan, Table};

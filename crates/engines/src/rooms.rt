@@ -3,7 +3,7 @@ ghost use Rattle.std.specs.Prelude.{None};
 
 use answers::Refusal;
 use choices::Ring;
-use finders::Finder;
+use crate::finder::Finder;
 use order::Bag;
 
 // Entries for the two halves, and bytes for the table by weight, however many there are.

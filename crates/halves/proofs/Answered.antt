@@ -4,14 +4,14 @@ use Rattle.std.proofs.lemmas.Bool.{and_parts, and_from, cases_Bool, le-ltb}
 use Rattle.choices.specs.Choice.{Choice, none_empty, keeps_old, fits}
 use Rattle.choices.specs.declared.rule.Rule.{Rule}
 use Rattle.choices.proofs.Choices.{fitting, fits_from}
-use Rattle.places.specs.Place.{by_ways, place}
+use Rattle.halves_places.specs.Place.{by_ways, place}
 use Rattle.order.specs.Order.{BestBag}
 use Rattle.order.specs.declared.bag.Bag.{Bag}
 use Rattle.halves.specs.Next.{Allowed, First}
-use Rattle.places.specs.Ring.{ways, Says}
-use Rattle.places.specs.declared.way.Way.{Way}
-use Rattle.places.proofs.Places.{length_by_ways, better_place, place_says}
-use Rattle.places.proofs.Rings.{by_ring, length_ways}
+use Rattle.halves_places.specs.Ring.{ways, Says}
+use Rattle.halves_places.specs.declared.way.Way.{Way}
+use Rattle.halves_places.proofs.Places.{length_by_ways, better_place, place_says}
+use Rattle.halves_places.proofs.Rings.{by_ring, length_ways}
 
 -- what fits the rule is what the ways allow, from the target's place on and below the bound
 module _ (r : Rule) (ws as' : List ℕ) (few : length ws ≤ 24) (paired : length as' ≡ length ws) (limit from to : ℕ) (vs : List Way) (by-limit : limit ≡ r.pans) (by-from : from ≡ r.target * 2 ^ 29) (by-to : to ≡ (r.target + r.above + 1) * 2 ^ 29) (by-ways-is : vs ≡ ways r.age ws as') where

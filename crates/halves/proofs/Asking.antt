@@ -4,9 +4,9 @@ use Rattle.std.specs.Bool.{then_some}
 use Rattle.std.proofs.lemmas.Bool.{ltb-true, ltb-false}
 use Rattle.std.proofs.lemmas.List.{length-take-le}
 use Rattle.choices.specs.Choice.{Choice}
-use Rattle.places.specs.Place.{place}
-use Rattle.places.specs.declared.way.Way.{Way}
-use Rattle.sweeps.specs.Sweep.{Apart, LeastOf, Together}
+use Rattle.halves_places.specs.Place.{place}
+use Rattle.halves_places.specs.declared.way.Way.{Way}
+use Rattle.halves_sweeps.specs.Sweep.{Apart, LeastOf, Together}
 use Rattle.halves.specs.Half.{Half}
 use Rattle.halves.specs.Next.{Allowed, Filled, Next, before, half_of}
 use Rattle.halves.specs.declared.filled.Halves.{Halves}

@@ -3,13 +3,13 @@ use Rattle.std.proofs.Common.{◌≡◌, ℕ, zero, suc, ◌+◌, ◌-◌, ◌^�
 use Rattle.std.proofs.lemmas.Bool.{and_parts, and_from, both_ways}
 use Rattle.std.proofs.lemmas.List.{length-take, length-drop, drop-drop, take_all}
 use Rattle.choices.specs.Choice.{Choice, opened}
-use Rattle.places.specs.Place.{by_ways, place, pans_in}
-use Rattle.places.specs.declared.way.Way.{Way}
-use Rattle.places.proofs.Places.{in_place}
-use Rattle.growth.specs.Entries.{Holds}
-use Rattle.growth.specs.Part.{Part}
-use Rattle.sieves.specs.Sieve.{part, Thinned}
-use Rattle.sieves.specs.declared.bounds.Bounds.{Bounds}
+use Rattle.halves_places.specs.Place.{by_ways, place, pans_in}
+use Rattle.halves_places.specs.declared.way.Way.{Way}
+use Rattle.halves_places.proofs.Places.{in_place}
+use Rattle.halves_growth.specs.Entries.{Holds}
+use Rattle.halves_growth.specs.Part.{Part}
+use Rattle.halves_sieves.specs.Sieve.{part, Thinned}
+use Rattle.halves_sieves.specs.declared.bounds.Bounds.{Bounds}
 use Rattle.halves.specs.Half.{Half, Wanted}
 use Rattle.halves.proofs.Placed.{part_whole}
 

@@ -3,14 +3,14 @@ use Rattle.std.proofs.Common.{◌≡◌, ℕ, ◌+◌, ◌-◌, ◌*◌, ◌/◌
 use Rattle.std.proofs.lemmas.Bool.{cases_lt}
 use Rattle.std.proofs.lemmas.List.{length-take, length-drop, length-append, drop-drop, take_at, drop_at, take_all}
 use Rattle.choices.specs.Choice.{Choice, weight_of, opened}
-use Rattle.places.specs.Place.{by_ways, place, pans_in}
-use Rattle.places.specs.declared.way.Way.{Way}
-use Rattle.places.proofs.Places.{length_by_ways, place_says, place_below}
-use Rattle.growth.specs.Entries.{Holds}
-use Rattle.sieves.specs.Sieve.{part}
-use Rattle.sieves.specs.declared.bounds.Bounds.{Bounds}
-use Rattle.sieves.proofs.Parts.{opened_cut}
-use Rattle.sweeps.specs.Sweep.{Apart, LeastOf, Together, Triple}
+use Rattle.halves_places.specs.Place.{by_ways, place, pans_in}
+use Rattle.halves_places.specs.declared.way.Way.{Way}
+use Rattle.halves_places.proofs.Places.{length_by_ways, place_says, place_below}
+use Rattle.halves_growth.specs.Entries.{Holds}
+use Rattle.halves_sieves.specs.Sieve.{part}
+use Rattle.halves_sieves.specs.declared.bounds.Bounds.{Bounds}
+use Rattle.halves_sieves.proofs.Parts.{opened_cut}
+use Rattle.halves_sweeps.specs.Sweep.{Apart, LeastOf, Together, Triple}
 use Rattle.halves.specs.Half.{Half, Wanted}
 use Rattle.halves.specs.Next.{Allowed, First}
 use Rattle.halves.proofs.Cutting.{by_ways_uncut, pans_part, part_long, place_part, back_all}

@@ -2,9 +2,9 @@
 use Rattle.std.proofs.Common.{◌≡◌, ℕ, ◌+◌, ◌-◌, ◌^◌, ◌<◌, ◌≤◌, List, length, get_or, take, drop, sym, ◌∙◌, ⊎_elim, arith, pow_mono}
 use Rattle.std.proofs.lemmas.Bool.{cases_lt}
 use Rattle.std.proofs.lemmas.List.{get_or-take, get_or-drop, get_or_past, length-take, length-take-le}
-use Rattle.places.specs.declared.way.Way.{Way}
-use Rattle.growth.specs.Part.{Part}
-use Rattle.sieves.specs.declared.bounds.Bounds.{Bounds}
+use Rattle.halves_places.specs.declared.way.Way.{Way}
+use Rattle.halves_growth.specs.Part.{Part}
+use Rattle.halves_sieves.specs.declared.bounds.Bounds.{Bounds}
 use Rattle.halves.specs.Half.{Half}
 use Rattle.halves.specs.Next.{half_of}
 

@@ -3,11 +3,11 @@
 --   Half         the first n entries are places of the part's choices in order; every choice that is wanted has one
 use Rattle.std.specs.Prelude.{◌≡◌, ℕ, ◌+◌, ◌-◌, ◌^◌, ◌<◌, ◌≤◌, true, List, length, slice_index}
 use Rattle.choices.specs.Choice.{Choice}
-use Rattle.places.specs.Place.{by_ways, place}
-use Rattle.places.specs.declared.way.Way.{Way}
-use Rattle.growth.specs.Entries.{Rises, Holds}
-use Rattle.sieves.specs.Sieve.{part, Bounded}
-use Rattle.sieves.specs.declared.bounds.Bounds.{Bounds}
+use Rattle.halves_places.specs.Place.{by_ways, place}
+use Rattle.halves_places.specs.declared.way.Way.{Way}
+use Rattle.halves_growth.specs.Entries.{Rises, Holds}
+use Rattle.halves_sieves.specs.Sieve.{part, Bounded}
+use Rattle.halves_sieves.specs.declared.bounds.Bounds.{Bounds}
 
 pub record Wanted (lim : Bounds) (ws : List ℕ) (vs : List Way) (cs : Choice) : Type 0 where
   pub ways : by_ways vs cs ≡ true

@@ -7,9 +7,9 @@
 --   Next         the first place from `from` on, below `to`, of an allowed choice; or that there is none
 use Rattle.std.specs.Prelude.{◌≡◌, ℕ, ◌+◌, ◌-◌, ◌/◌, ◌^◌, ◌<◌, ◌≤◌, true, List, length, Some, None, Option}
 use Rattle.choices.specs.Choice.{Choice, opened}
-use Rattle.places.specs.Place.{by_ways, place}
+use Rattle.halves_places.specs.Place.{by_ways, place}
 use Rattle.halves.specs.Half.{Half}
-use Rattle.places.specs.declared.way.Way.{Way}
+use Rattle.halves_places.specs.declared.way.Way.{Way}
 use Rattle.halves.specs.declared.filled.Halves.{Halves}
 
 abbrev pub half_of : ℕ → ℕ

@@ -1,8 +1,8 @@
 // What the pans of a ring fill.
 ghost use Rattle.std.specs.Prelude.{◌≡◌, ◌≤◌, length};
 
-use sieves::Bounds;
-use sweeps::Lists;
+use halves_sieves::Bounds;
+use halves_sweeps::Lists;
 
 // The entries of the one or two pans before the halves, and how many of them there are; the entries of the front half and of the
 // back half. None is left out that the bounds allow. The former are four at most, so they stand here and not in a lent room.

@@ -1,17 +1,17 @@
 // The two halves in a lent room, and the pans before them: filled once, and asked for the next choice from any place on.
 ghost use Rattle.std.specs.Prelude.{◌≡◌, ℕ, ◌+◌, ◌-◌, ◌*◌, ◌^◌, ◌≤◌, length};
-ghost use Rattle.growth.specs.Part.{Part};
+ghost use Rattle.halves_growth.specs.Part.{Part};
 ghost use Rattle.halves.specs.Half.{Half};
 ghost use Rattle.halves.specs.Next.{Filled, Next, before, half_of, room_for};
-ghost use Rattle.sieves.specs.Sieve.{part as part_of};
+ghost use Rattle.halves_sieves.specs.Sieve.{part as part_of};
 
 use crate::filled::Halves;
 use crate::rooms::{entries, half_of};
-use growth::part;
-use pairs::both;
-use places::Pans;
-use sieves::{Bounds, Span, thin};
-use sweeps::{Lists, least};
+use halves_growth::part;
+use halves_pairs::both;
+use halves_places::Pans;
+use halves_sieves::{Bounds, Span, thin};
+use halves_sweeps::{Lists, least};
 
 // The entries of the one or two pans before the halves; gives how many there are.
 fn topped(pans: Pans, half: usize, bounds: Bounds, tops: &mut [u64; 4]) -> usize

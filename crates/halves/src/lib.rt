@@ -9,6 +9,6 @@ mod rooms;
 pub use answer::best;
 pub use filled::Halves;
 pub use halves::{fill, next};
-pub use places::{Pans, Way, bag_in, pans_in, weight_in};
+pub use halves_places::{Pans, Way, bag_in, pans_in, weight_in};
 pub use rooms::{ROOM, full_room, room_for};
-pub use sieves::Bounds;
+pub use halves_sieves::Bounds;

@@ -8,7 +8,7 @@ use crate::one_bag::pack;
 use crate::refusal::{checked, checked_in};
 use answers::Refusal;
 use engines::Rooms;
-use finders::Scan;
+use engines::Scan;
 use order::Bag;
 
 // Makes the best bag that the rule (target, above, pans, age) allows: its pans are then empty and of age 0, all others a

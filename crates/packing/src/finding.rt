@@ -6,7 +6,7 @@ ghost use Rattle.packing.specs.Refusals.{first_refusal, or_else};
 use crate::refusal::checked;
 use answers::Refusal;
 use choices::Ring;
-use finders::Finder;
+use engines::Finder;
 use order::Bag;
 
 // What a finder makes of a rule in numbers and of pans; what it lacks for them is turned away last.

@@ -7,7 +7,7 @@ ghost use Rattle.packing.specs.Refusals.{Ready};
 
 use crate::marks::mark;
 use choices::{Ring, Rule};
-use finders::Finder;
+use engines::Finder;
 use order::Bag;
 
 // Opens the pans of a bag's number: they are then empty and of age 0, all others a bag older.

@@ -8,8 +8,8 @@ use Rattle.packing.specs.Entry.{Made}
 use Rattle.choices.specs.Ruled.{rule_in}
 use Rattle.packing.specs.Refusals.{Accepted, Ready, first_refusal}
 use Rattle.packing.proofs.Refused.{ready, refusals_are_exact}
-use Rattle.promises.specs.Rows.{Stand, total, Falls, Bags, start, next}
-use Rattle.promises.proofs.Rows.{made_young, made_paired, length_falls, length_marked, bags_weigh_enough, no_pan_waits_too_long, rows_lose_nothing}
+use Rattle.laws.specs.Rows.{Stand, total, Falls, Bags, start, next}
+use Rattle.laws.proofs.Rows.{made_young, made_paired, length_falls, length_marked, bags_weigh_enough, no_pan_waits_too_long, rows_lose_nothing}
 use Rattle.seasons.specs.Handfuls.{hands, place, empties, filled}
 use Rattle.seasons.specs.Season.{stand, Season, start as begins, next as goes, Plays, Kept}
 use Rattle.answers.specs.declared.played.Played.{Played}

@@ -16,8 +16,8 @@ use Rattle.choices.specs.Ruled.{rule_in}
 use Rattle.packing.specs.Refusals.{or_else, first_above, first_refusal}
 use Rattle.answers.specs.declared.refusal.Refusal.{Refusal}
 use Rattle.answers.specs.declared.refusal.Refusal.TheVariants.{Number, Line}
-use Rattle.promises.specs.Promises.{Young}
-use Rattle.promises.specs.Rows.{Stand, total}
+use Rattle.laws.specs.Laws.{Young}
+use Rattle.laws.specs.Rows.{Stand, total}
 use Rattle.seasons.specs.Handfuls.{hands, place, empties, filled}
 use Rattle.answers.specs.declared.played.Played.{Played}
 

@@ -7,7 +7,7 @@ use crate::outcome::{Answer, Outcome};
 use crate::plain::all_tried;
 use crate::scores::Scores;
 use engines::Rooms;
-use finders::{Finder, Halves, Scan, Table};
+use engines::{Finder, Halves, Scan, Table};
 use packing::{bag, bag_in, checked, find};
 
 // The table is asked for bags up to this weight: those of the trade, and some beyond.

@@ -1,7 +1,7 @@
 -- What is left of the proof of the entries before the halves.
 use Rattle.std.proofs.Common.{◌≡◌, ℕ, ◌+◌, ◌-◌, length, sym, ap, arith}
 use Rattle.std.proofs.lemmas.List.{get_or_append_left}
-use Rattle.growth.proofs.Fronts.{rises_front}
+use Rattle.halves_growth.proofs.Fronts.{rises_front}
 use Rattle.halves.specs.Next.{before}
 use Rattle.halves.proofs.Cutting.{long_part, few_part, half_from, part_made}
 use Rattle.halves.proofs.Placed.{few_tops, half_same}

@@ -1,2 +1,0 @@
--- The definitions that contracts cite.
-pub mod Lacks

@@ -1,8 +1,0 @@
-// What finds the best bag of a ring: one promise, and the three engines that keep it, each with the room that it is lent.
-#![tactic(auto)]
-
-mod finder;
-mod single;
-
-pub use finder::Finder;
-pub use single::{Halves, Scan, Table};

@@ -1,0 +1,43 @@
+-- The entries of a part of the pans as it grows by a pan. Assumes nothing: these are definitions.
+--   Rises        the first n entries are in order
+--   Sorted       the same, and they are low enough for sums to fit
+--   Holds        a number is among the first n entries
+--   Below        the first r of the first n entries are those that stay below the bound with the gain
+--   Merged       what stood in the first n entries, and what stood in the first m of them with the gain, in order
+use Rattle.std.specs.Prelude.{◌≡◌, ℕ, ◌+◌, ◌^◌, ◌<◌, ◌≤◌, true, ◌⊎◌, List, slice_index}
+use Rattle.halves_places.specs.declared.way.Way.{Way}
+
+abbrev pub Rises : List ℕ → ℕ → Type 0
+Rises es n = (p q : ℕ) → p ≤ q → q < n → slice_index es p ≤ slice_index es q
+
+pub record Sorted (es : List ℕ) (n : ℕ) : Type 0 where
+  pub rises : Rises es n
+  pub low : (p : ℕ) → p < n → slice_index es p < 2 ^ 62
+
+abbrev pub Holds : List ℕ → ℕ → ℕ → Type 0
+Holds es n x = (q : ℕ) × (q < n) × (slice_index es q ≡ x)
+
+pub record Below (es : List ℕ) (n gain to r : ℕ) : Type 0 where
+  pub few : r ≤ n
+  pub low : (p : ℕ) → p < r → slice_index es p + gain < to
+  pub high : (p : ℕ) → r ≤ p → p < n → to ≤ slice_index es p + gain
+
+pub record Merged (old es : List ℕ) (n m gain : ℕ) : Type 0 where
+  pub rises : Rises es (n + m)
+  pub keeps : (p : ℕ) → p < n → Holds es (n + m) (slice_index old p)
+  pub adds : (p : ℕ) → p < m → Holds es (n + m) (slice_index old p + gain)
+  pub only : (q : ℕ) → q < n + m → Holds old n (slice_index es q) ⊎ ((p : ℕ) × (p < m) × (slice_index old p + gain ≡ slice_index es q))
+
+-- the first m of the n entries are those to which the pan is opened
+pub record Opening (to : ℕ) (v : Way) (gain : ℕ) (es : List ℕ) (n m : ℕ) : Type 0 where
+  pub few : m ≤ n
+  pub opens : 0 < m → v.opens ≡ true
+  pub all : v.opens ≡ true → (p : ℕ) → p < n → slice_index es p + gain < to → p < m
+
+-- a part with one pan more: its choices with the pan shut, and with it opened, but for what is too heavy
+pub record Grown (to : ℕ) (v : Way) (gain : ℕ) (old es : List ℕ) (n n' : ℕ) : Type 0 where
+  pub few : n' ≤ n + n
+  pub rises : Rises es n'
+  pub keeps : v.stays ≡ true → (p : ℕ) → p < n → Holds es n' (slice_index old p)
+  pub adds : v.opens ≡ true → (p : ℕ) → p < n → slice_index old p + gain < to → Holds es n' (slice_index old p + gain)
+  pub only : (q : ℕ) → q < n' → ((v.stays ≡ true) × Holds old n (slice_index es q)) ⊎ ((v.opens ≡ true) × ((p : ℕ) × (p < n) × (slice_index old p + gain ≡ slice_index es q)))

@@ -1,0 +1,41 @@
+// A part of the pans: the places of all its choices in order.
+ghost use Rattle.std.specs.Prelude.{◌≡◌, ℕ, ◌+◌, ◌-◌, ◌*◌, ◌^◌, ◌<◌, ◌≤◌, length};
+ghost use Rattle.halves_growth.specs.Part.{Part};
+
+use crate::more::grow;
+use crate::pan::Pan;
+use halves_places::Pans;
+
+// What the place gains where a pan is opened that was shut, with so many pans behind it.
+pub fn gain(weight: u32, behind: usize) -> u64
+    requires light { weight ≤ 1000000 }
+    requires few { behind < 24 }
+    ensures { result + 2 ^ behind ≡ weight * 2 ^ 29 + 2 ^ 24 }
+{
+    (u64::from(weight) << 29) + (1 << 24) - (1 << behind)
+}
+
+// What so many pans add to a place while all of them stay shut, with so many pans behind them.
+pub fn all_shut(count: usize, behind: usize) -> u64
+    requires { behind + count ≤ 24 }
+    ensures { result ≡ 2 ^ (behind + count) - 2 ^ behind }
+{
+    (1 << (behind + count)) - (1 << behind)
+}
+
+// Fills the entries from the last pan to the first, with so many pans behind the part; gives how many there are.
+pub fn part(pans: Pans, behind: usize, to: u64, es: &mut [u64]) -> usize
+    requires few { behind + length pans.weights.now ≤ 24 }
+    requires room { 2 ^ length pans.weights.now ≤ length es.old }
+    ensures { Part behind 0 to pans.entry.weights.now pans.entry.ways.now es.new result }
+{
+    let count = pans.weights.len();
+    es[0] = all_shut(count, behind);
+    let mut n = 1;
+    // Counted down, since a pan's number also says how many stand behind it.
+    for k in (0..count).rev() {
+        let pan = Pan::of(pans, k, behind + (count - 1 - k));
+        n = grow(es, n, pan, to);
+    }
+    n
+}

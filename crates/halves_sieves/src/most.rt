@@ -1,0 +1,28 @@
+// What so many pans weigh together at most.
+ghost use Rattle.std.specs.Prelude.{◌≡◌, ℕ, ◌+◌, ◌*◌, ◌^◌, ◌<◌, ◌≤◌, max, List, ◌++◌, length, slice_index};
+ghost use Rattle.halves_sieves.specs.Sieve.{Most};
+
+// One pan more may be among them: it is, or it is not.
+fn with_pan(most: &mut [u64; 25], weight: u32)
+    requires { (r : ℕ) → slice_index most.old r < 2 ^ 62 }
+    ensures none { slice_index most.new 0 ≡ slice_index most.old 0 }
+    ensures more { (r : ℕ) → r < 24 → slice_index most.new (r + 1) ≡ max (slice_index most.old (r + 1)) (slice_index most.old r + weight) }
+{
+    // By index, from the most pans down: each is worked out beside the one before it, which is still as it was.
+    for r in (0..24).rev() {
+        most[r + 1] = most[r + 1].max(most[r] + u64::from(weight));
+    }
+}
+
+// So many pans more may be among them.
+pub fn with_pans(most: &mut [u64; 25], weights: &[u32])
+    requires low { (r : ℕ) → slice_index most.old r ≤ 2 ^ 40 }
+    requires few { length weights.now ≤ 24 }
+    requires light { (i : ℕ) → slice_index weights.now i ≤ 1000000 }
+    ensures most { (us : List ℕ) → Most us most.old → Most (weights.now ++ us) most.new }
+    ensures low { (b : ℕ) → ((r : ℕ) → slice_index most.old r ≤ b) → (r : ℕ) → slice_index most.new r ≤ b + length weights.now * 1000000 }
+{
+    for weight in weights.iter().rev() {
+        with_pan(most, *weight);
+    }
+}

@@ -1,0 +1,37 @@
+// What is worth keeping moves to the front.
+ghost use Rattle.std.specs.Prelude.{◌≡◌, ◌+◌, ◌≤◌, length};
+ghost use Rattle.halves_growth.specs.Entries.{Rises};
+ghost use Rattle.halves_sieves.specs.Sieve.{Sieved, Thinned};
+
+use crate::bounds::Bounds;
+use crate::span::Span;
+use crate::worth::worth;
+use halves_growth::above;
+use halves_places::pans_in;
+
+// Moves what is kept to the front, with no branch on what is compared; gives how many there are.
+fn sieve(es: &mut [u64], short: &[u64; 32]) -> usize
+    requires { Rises es.old (length es.old) }
+    ensures { Sieved short.now es.old es.new (length es.old) result }
+{
+    let mut left = 0;
+    // By index, since it reads and writes one slice at two places that move apart.
+    for i in 0..es.len() {
+        let entry = es[i];
+        es[left] = entry;
+        left += 1 - above(short[pans_in(entry) as usize], entry);
+    }
+    left
+}
+
+// Sieves the entries of a span of the pans, where the count can bind at all; gives how many are left.
+pub fn thin(span: Span, bounds: Bounds, es: &mut [u64]) -> usize
+    requires { Rises es.old (length es.old) }
+    ensures { Thinned bounds span.entry.pans.weights.now span.entry.skip span.entry.len es.old es.new (length es.old) result }
+{
+    if bounds.limit < span.pans.weights.len() as u64 {
+        sieve(es, &worth(span, bounds))
+    } else {
+        es.len()
+    }
+}

@@ -1,6 +1,0 @@
--- The promise's proof.
-use Rattle.promises.proofs.Rows.{no_pan_waits_too_long}
-use Rattle.promises.proofs.no_pan_waits_too_long.Goals as goal
-
-pub returns : goal.returns
-returns c = no_pan_waits_too_long

@@ -1,6 +1,0 @@
--- The worked examples' proof.
-use Rattle.promises.proofs.Examples.{first_pair, fewer_pans, empty_and_old}
-use Rattle.promises.proofs.worked_examples.Goals as goal
-
-pub returns : goal.returns
-returns c = record { pair = first_pair; fewer = fewer_pans; none = empty_and_old }

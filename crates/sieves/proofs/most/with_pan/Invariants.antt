@@ -1,6 +1,0 @@
--- What is worked out, from the most pans down.
-use Rattle.sieves.proofs.Weighing.{Worked}
-use Rattle.sieves.proofs.most.with_pan.Given as goal
-
-abbrev pub invariant-loop-r : goal.invariant-loop-r
-invariant-loop-r l = Worked l.weight l.initial.most l.most l.r

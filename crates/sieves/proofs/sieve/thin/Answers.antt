@@ -1,6 +1,0 @@
--- What is left of the proof that nothing within the bounds is lost.
-use Rattle.sieves.proofs.Parts.{thinned_from}
-use Rattle.sieves.proofs.sieve.thin.Goals as goal
-
-pub returns-then-bounds-span : goal.returns-then-bounds-span
-returns-then-bounds-span c = thinned_from _ _ c.args.span.skip c.args.span.len _ _ _ _ _ c.worth.ensures c.sieve.ensures

@@ -1,6 +1,0 @@
--- What is left of the proof of so many steps.
-use Rattle.sweeps.proofs.Striding.{turning_more}
-use Rattle.sweeps.proofs.four.stride.Goals as goal
-
-pub loop-lane-preserved : goal.loop-lane-preserved
-loop-lane-preserved c = turning_more _ _ _ _ _ _ _ _ c.loop-lane-test.true c.loop-lane.invariant c.step.ensures

@@ -1,6 +1,0 @@
--- What is passed over opens too many pans.
-use Rattle.sweeps.proofs.Sweeping.{Passed}
-use Rattle.sweeps.proofs.tops.least.Given as goal
-
-abbrev pub invariant-loop : goal.invariant-loop
-invariant-loop l = Passed l.limit l.tops l.lists.front.now l.lists.back.now l.from l.at
