@@ -2,4 +2,5 @@
 pub mod Choice
 pub mod Numbered
 pub mod Ruled
+pub mod Stand
 pub mod Tallied

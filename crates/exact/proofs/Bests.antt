@@ -2,6 +2,7 @@
 use Rattle.std.proofs.Common.{◌≡◌, ℕ, ◌+◌, ◌-◌, ◌*◌, ◌^◌, ◌<◌, ◌≤◌, ◌⊎◌, true, false, not, List, length, get_or, None, inl, inr, refl, sym, ◌∙◌, arith}
 use Rattle.std.proofs.lemmas.Bool.{cases_lt, not-false}
 use Rattle.std.proofs.lemmas.Nat.{pow_below}
+use Rattle.choices.specs.declared.limits.TheConstants.{WIDEST}
 use Rattle.choices.specs.Choice.{Choice, weight_of, opened, none_empty, fits}
 use Rattle.choices.specs.Numbered.{number_of}
 use Rattle.choices.specs.declared.rule.Rule.{Rule}
@@ -20,13 +21,13 @@ use Rattle.exact.proofs.Joining.{Joined, join, Split, split, with_due, without_d
 pub record Left (r : Rule) (ws as' : List ℕ) (x : ℕ) : Type 0 where
   pub paired : length as' ≡ length ws
   pub few : length ws ≤ 24
-  pub target : r.target ≤ 1000000
+  pub target : r.target ≤ WIDEST
   pub fills : none_empty ws (due_of r.age as') ≡ true
   pub held : opened (due_of r.age as') ≤ r.pans
   pub makes : weight_of ws (due_of r.age as') + x ≡ r.target
 
 pub left :
-    (r : Rule) {ws as' : List ℕ} {d : Due} → Owed r.age ws as' d → length as' ≡ length ws → length ws ≤ 24 → r.target ≤ 1000000 →
+    (r : Rule) {ws as' : List ℕ} {d : Due} → Owed r.age ws as' d → length as' ≡ length ws → length ws ≤ 24 → r.target ≤ WIDEST →
     not d.filled ≡ false → d.pans ≤ r.pans → d.weight ≤ r.target → Left r ws as' (r.target - d.weight)
 left r {d = d} o paired few target filled held light =
     record {

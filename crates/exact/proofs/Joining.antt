@@ -26,14 +26,14 @@ loose_some : (b : Bool) (w : ℕ) → 1 ≤ loose b w
 loose_some false w = omega arith
 loose_some true w = at (leb 1 w) refl
   where
-    at : (f : Bool) → leb 1 w ≡ f → 1 ≤ cond f w 2000000
+    at : (f : Bool) → leb 1 w ≡ f → 1 ≤ cond f w 26000000
     at true e = leb-true 1 w e
     at false e = omega arith
 
-loose_most : (b : Bool) (w : ℕ) → w ≤ 1000000 → loose b w ≤ 2000000
+loose_most : (b : Bool) (w : ℕ) → w ≤ 1000000 → loose b w ≤ 26000000
 loose_most b w h = at (b && leb 1 w)
   where
-    at : (d : Bool) → cond d w 2000000 ≤ 2000000
+    at : (d : Bool) → cond d w 26000000 ≤ 26000000
     at true = omega arith
     at false = omega arith
 
@@ -43,7 +43,7 @@ free_some old ws as' e i less =
 
 pub free_most :
     (old : ℕ) (ws as' : List ℕ) → length as' ≡ length ws → ((i : ℕ) → get_or ws i 0 ≤ 1000000) →
-    (i : ℕ) → i < length (free_of old ws as') → get_or (free_of old ws as') i 0 ≤ 2000000
+    (i : ℕ) → i < length (free_of old ws as') → get_or (free_of old ws as') i 0 ≤ 26000000
 free_most old ws as' e light i less =
     rw (free_at old ws as' i e (omega (arith, length_free old ws as' e))) (loose_most (ltb (get_or as' i 0) old) (get_or ws i 0) (light i))
 
@@ -64,8 +64,8 @@ pub record Joined (old : ℕ) (ws as' : List ℕ) (cs : Choice) : Type 0 where
 
 -- one pan: whether it is opened, may wait and is filled
 joined_pan :
-    (c b f : Bool) (w : ℕ) → cond c (cond (b && f) w 2000000) 0 < 2000000 →
-    (cond (c || not b) w 0 ≡ cond (not b) w 0 + cond c (cond (b && f) w 2000000) 0) × (bit (c || not b) ≡ bit (not b) + bit c)
+    (c b f : Bool) (w : ℕ) → cond c (cond (b && f) w 26000000) 0 < 26000000 →
+    (cond (c || not b) w 0 ≡ cond (not b) w 0 + cond c (cond (b && f) w 26000000) 0) × (bit (c || not b) ≡ bit (not b) + bit c)
     × ((not (not b) || f) ≡ true → (not (c || not b) || f) ≡ true) × (((c || not b) || b) ≡ true)
 joined_pan true true true w less = (omega arith, refl, λ h. refl, refl)
 joined_pan true true false w less = absurd (omega arith)
@@ -74,7 +74,7 @@ joined_pan false true f w less = (omega arith, refl, λ h. refl, refl)
 joined_pan false false f w less = (omega arith, refl, λ h. h, refl)
 
 pub join :
-    (old : ℕ) (ws as' : List ℕ) (cs : Choice) → length as' ≡ length ws → length cs ≡ length ws → weight_of (free_of old ws as') cs < 2000000 → Joined old ws as' cs
+    (old : ℕ) (ws as' : List ℕ) (cs : Choice) → length as' ≡ length ws → length cs ≡ length ws → weight_of (free_of old ws as') cs < 26000000 → Joined old ws as' cs
 join old [] [] [] e f less = record { whole = refl; weighs = refl; counts = refl; numbers = refl; fills = λ h. refl; waits = refl }
 join old [] [] (c ∷ cs) e f less = absurd (omega arith)
 join old [] (a ∷ as') cs e f less = absurd (omega arith)
@@ -107,7 +107,7 @@ pub record Split (old : ℕ) (ws as' : List ℕ) (ds : Choice) : Type 0 where
 
 split_pan :
     (d b f : Bool) (w : ℕ) → (not d || f) ≡ true → (d || b) ≡ true →
-    (cond d w 0 ≡ cond (not b) w 0 + cond (d && b) (cond (b && f) w 2000000) 0) × (bit d ≡ bit (not b) + bit (d && b)) × ((not (not b) || f) ≡ true)
+    (cond d w 0 ≡ cond (not b) w 0 + cond (d && b) (cond (b && f) w 26000000) 0) × (bit d ≡ bit (not b) + bit (d && b)) × ((not (not b) || f) ≡ true)
 split_pan true true true w g h = (omega arith, refl, refl)
 split_pan true true false w g h = absurd (false_true g)
   where
@@ -137,7 +137,7 @@ split old (w ∷ ws) (a ∷ as') (d ∷ ds) e f g h =
 
 -- the first pan that differs is free
 more_pan :
-    (d c b f : Bool) (w : ℕ) (ds es ds' es' : Choice) → (d || b) ≡ true → cond c (cond (b && f) w 2000000) 0 < 2000000 → first_more ds es ≡ first_more ds' es' →
+    (d c b f : Bool) (w : ℕ) (ds es ds' es' : Choice) → (d || b) ≡ true → cond c (cond (b && f) w 26000000) 0 < 26000000 → first_more ds es ≡ first_more ds' es' →
     first_more (d ∷ ds) ((c || not b) ∷ es) ≡ first_more ((d && b) ∷ ds') (c ∷ es')
 more_pan true true true f w ds es ds' es' g less e = e
 more_pan true false true f w ds es ds' es' g less e = refl
@@ -152,7 +152,7 @@ more_pan false false false f w ds es ds' es' g less e = absurd (false_true g)
 
 pub more_free :
     (old : ℕ) (ws as' : List ℕ) (ds cs : Choice) → length as' ≡ length ws → length ds ≡ length ws → length cs ≡ length ws → keeps_old old as' ds ≡ true →
-    weight_of (free_of old ws as') cs < 2000000 → first_more ds (with_due old as' cs) ≡ first_more (without_due old as' ds) cs
+    weight_of (free_of old ws as') cs < 26000000 → first_more ds (with_due old as' cs) ≡ first_more (without_due old as' ds) cs
 more_free old [] [] [] [] e f g h less = refl
 more_free old [] [] [] (c ∷ cs) e f g h less = absurd (omega arith)
 more_free old [] [] (d ∷ ds) cs e f g h less = absurd (omega arith)

@@ -10,7 +10,7 @@ due_of old [] = []
 due_of old (a ∷ as') = not (nat_lt a old) ∷ due_of old as'
 
 abbrev pub loose : Bool → ℕ → ℕ
-loose may_wait w = cond (may_wait && nat_le 1 w) w 2000000
+loose may_wait w = cond (may_wait && nat_le 1 w) w 26000000
 
 abbrev pub free_of : ℕ → (weights ages : List ℕ) → List ℕ
 free_of old [] as' = []

@@ -9,7 +9,7 @@ use crate::tables::{fill_ones, fill_pairs};
 pub fn few(free: &[u32], weight: u32, most: u32, ones: &mut [u8], pairs: &mut [u8]) -> Option<u32>
     requires few { length free.now ≤ 24 }
     requires some { EachIndex free.now (λ i. 1 ≤ slice_index free.now i) }
-    requires all { EachIndex free.now (λ i. slice_index free.now i ≤ 2000000) }
+    requires all { EachIndex free.now (λ i. slice_index free.now i ≤ 26000000) }
     requires room { (weight + 1 < length ones.old) × (weight + 1 < length pairs.old) }
     ensures { Chosen most free.now weight result }
 {

@@ -5,7 +5,7 @@ ghost use Rattle.exact.specs.Pans.{free_of, loose};
 use choices::Ring;
 
 // More than any target, so that a pan of this weight is never opened.
-const BARRED: u32 = 2_000_000;
+const BARRED: u32 = 26_000_000;
 
 // A pan that has to be opened, or is empty, is barred.
 fn loose_weight(may_wait: bool, weight: u32) -> u32

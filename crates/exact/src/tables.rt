@@ -18,8 +18,8 @@ pub fn fill_ones(free: &[u32], ones: &mut [u8])
 
 // The sums of a pan and each of those behind it.
 fn mark(first: u32, behind: &[u32], byte: u8, pairs: &mut [u8])
-    requires light { first ≤ 2000000 }
-    requires all { EachIndex behind.now (λ i. slice_index behind.now i ≤ 2000000) }
+    requires light { first ≤ 26000000 }
+    requires all { EachIndex behind.now (λ i. slice_index behind.now i ≤ 26000000) }
     requires room { 1 ≤ length pairs.old }
     ensures { Marked (Sums first behind.now) byte pairs.old pairs.new }
 {
@@ -33,7 +33,7 @@ fn mark(first: u32, behind: &[u32], byte: u8, pairs: &mut [u8])
 pub fn fill_pairs(free: &[u32], pairs: &mut [u8])
     requires few { length free.now ≤ 24 }
     requires some { EachIndex free.now (λ i. 1 ≤ slice_index free.now i) }
-    requires all { EachIndex free.now (λ i. slice_index free.now i ≤ 2000000) }
+    requires all { EachIndex free.now (λ i. slice_index free.now i ≤ 26000000) }
     requires room { 2 ≤ length pairs.old }
     ensures { Tells 2 free.now pairs.new }
 {

@@ -34,7 +34,7 @@ group s g x l h =
 small : (s : Tallies) (k : ℕ) (t : Tally) → Of s k t → Small t
 small s k t h =
     let n = length s.ring.weights.now in
-    tallied_small _ _ _ (choice_of n k) t (omega (arith, length_choice_of n k, s.ring.few)) s.ring.light h
+    tallied_small _ _ _ (choice_of n k) t (omega (arith, length_choice_of n k, s.ring.ordered.few)) s.ring.ordered.light h
 
 pub room :
     (s : Tallies) (k m : ℕ) (a b : Tally) → Of s k a → Of s m b →

@@ -13,12 +13,12 @@ pub struct Shape {
     ghost long: { 64 ≤ pad },
     ghost short: { pad ≤ 64 * blocks },
     ghost some: { 1 ≤ blocks },
-    ghost small: { blocks ≤ 40000 },
+    ghost small: { blocks ≤ 800000 },
 }
 
 // Whole blocks that hold a byte for every weight up to a span.
 pub fn width_of(span: usize) -> usize
-    requires { span ≤ 2000000 }
+    requires { span ≤ 50000000 }
     ensures { result ≡ width_of span }
 {
     BLOCK * (span / BLOCK + 1)
@@ -28,7 +28,7 @@ impl Shape {
     // For weights up to a span, where no pan weighs more than the heaviest: two pans reach no further back than twice that,
     // and none further than a whole row.
     pub fn of(span: usize, heaviest: usize) -> Shape
-        requires { (span ≤ 2000000) × (heaviest ≤ 1000000) }
+        requires { (span ≤ 50000000) × (heaviest ≤ 1000000) }
         ensures pad { result.pad ≡ pad_of span heaviest }
         ensures blocks { 64 * result.blocks ≡ width_of span }
     {

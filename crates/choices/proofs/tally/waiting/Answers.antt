@@ -7,4 +7,4 @@ use Rattle.choices.proofs.tally.waiting.Goals as goal
 pub returns : goal.returns
 returns c =
     let ring = c.args.ring in
-    c.look.ensures.olds ∙ rw (one_shl (length ring.weights.now) 32 (omega (arith, ring.few)), ← ring.paired) (all_opened ring.rule.age ring.ages.now)
+    c.look.ensures.olds ∙ rw (one_shl (length ring.weights.now) 32 (omega (arith, ring.ordered.few)), ← ring.ordered.paired) (all_opened ring.rule.age ring.ages.now)

@@ -9,7 +9,7 @@ use Rattle.exact.proofs.answer.best.Goals.{then-not-held-via-then-not-held, then
 pub returns-then-not-held : goal.returns-then-not-held
 returns-then-not-held c =
     λ room cs e.
-    let k = known c.args.ring.paired e in
+    let k = known c.args.ring.ordered.paired e in
     let h = c.due_pans-held.ensures in
     elim c.then-not-held.branch [
       | then-not-held-via-then-not-held w ↦ both_ways _ (not-true _ w.if-not-held.true) (h.fills ∙ k.fills)
@@ -21,23 +21,23 @@ pub returns-then-heaviest-left : goal.returns-then-heaviest-left
 returns-then-heaviest-left c =
     λ room cs e.
     let r = c.args.ring in
-    let l = left r.rule c.due_pans-held.ensures r.paired r.few r.target c.if-not-held.false c.if-held-rule.false c.if-held-rule-2.false in
+    let l = left r.rule c.due_pans-held.ensures r.ordered.paired r.ordered.few r.ruled.target c.if-not-held.false c.if-held-rule.false c.if-held-rule-2.false in
     elim c.then-heaviest-left.branch [
       | then-heaviest-left-via-then-heaviest-left w ↦ none_heavy l w.if-heaviest-left.true (rw c.free_weights.ensures at c.heaviest.ensures.heaviest) e
       | then-heaviest-left-via-else-heaviest-left+then-room-wide w ↦ omega (arith, w.if-room-wide.true)
     ]
 
 pub few-requires-clause-some : goal.few-requires-clause-some
-few-requires-clause-some c = let r = c.args.ring in rw c.free_weights.ensures (free_some r.rule.age r.weights.now r.ages.now r.paired)
+few-requires-clause-some c = let r = c.args.ring in rw c.free_weights.ensures (free_some r.rule.age r.weights.now r.ages.now r.ordered.paired)
 
 pub few-requires-clause-all : goal.few-requires-clause-all
-few-requires-clause-all c = let r = c.args.ring in rw c.free_weights.ensures (free_most r.rule.age r.weights.now r.ages.now r.paired r.light)
+few-requires-clause-all c = let r = c.args.ring in rw c.free_weights.ensures (free_most r.rule.age r.weights.now r.ages.now r.ordered.paired r.ordered.light)
 
 pub returns-in_err-more : goal.returns-in_err-more
 returns-in_err-more c =
     let r = c.args.ring in
     let h = c.due_pans-held.ensures in
-    let l = left r.rule h r.paired r.few r.target c.if-not-held.false c.if-held-rule.false c.if-held-rule-2.false in
+    let l = left r.rule h r.ordered.paired r.ordered.few r.ruled.target c.if-not-held.false c.if-held-rule.false c.if-held-rule-2.false in
     let none = rw (c.free_weights.ensures, h.counts) at c.in_err-more.ensures in
     rw c.from_residual.ensures (λ room cs e. none_chosen l none e)
 
@@ -45,7 +45,7 @@ pub overflow_add-result : goal.overflow_add-result
 overflow_add-result c =
     let r = c.args.ring in
     let h = c.due_pans-held.ensures in
-    let l = left r.rule h r.paired r.few r.target c.if-not-held.false c.if-held-rule.false c.if-held-rule-2.false in
+    let l = left r.rule h r.ordered.paired r.ordered.few r.ruled.target c.if-not-held.false c.if-held-rule.false c.if-held-rule-2.false in
     let s = rw (c.free_weights.ensures, h.counts) at c.in_ok-more.ensures in
     omega (arith, h.numbers, chosen_fits l s)
 
@@ -53,6 +53,6 @@ pub returns : goal.returns
 returns c =
     let r = c.args.ring in
     let h = c.due_pans-held.ensures in
-    let l = left r.rule h r.paired r.few r.target c.if-not-held.false c.if-held-rule.false c.if-held-rule-2.false in
+    let l = left r.rule h r.ordered.paired r.ordered.few r.ruled.target c.if-not-held.false c.if-held-rule.false c.if-held-rule-2.false in
     let s = rw (c.free_weights.ensures, h.counts) at c.in_ok-more.ensures in
     rw h.numbers (best_chosen l s)

@@ -9,6 +9,6 @@ use Rattle.exact.proofs.free.free_weights.Goals as goal
 pub returns : goal.returns
 returns c =
     let r = c.args.ring in
-    let long = length_free r.rule.age r.weights.now r.ages.now r.paired in
+    let long = length_free r.rule.age r.weights.now r.ages.now r.ordered.paired in
     ext_get_or 0 c.loop-pan.free (free_of r.rule.age r.weights.now r.ages.now) (omega (arith, long))
-    (λ i less. c.loop-pan.invariant i (omega arith) ∙ sym (free_at r.rule.age r.weights.now r.ages.now i r.paired (omega arith)))
+    (λ i less. c.loop-pan.invariant i (omega arith) ∙ sym (free_at r.rule.age r.weights.now r.ages.now i r.ordered.paired (omega arith)))

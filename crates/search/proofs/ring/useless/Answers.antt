@@ -14,7 +14,7 @@ last n head free few within = rw (one_shl free 64 (omega (arith, narrow n head f
 pub tally-least-requires : goal.tally-least-requires
 tally-least-requires c =
     let ring = c.args.tallies.now.ring in
-    candidate (length ring.weights.now) c.args.head ring.few (omega (arith, c.requires.1, pow_pos c.args.free))
+    candidate (length ring.weights.now) c.args.head ring.ordered.few (omega (arith, c.requires.1, pow_pos c.args.free))
 
 pub returns-then-least-most : goal.returns-then-least-most
 returns-then-least-most c _ =
@@ -26,7 +26,7 @@ returns-then-least-most c _ =
     ]
 
 pub overflow_shl-free : goal.overflow_shl-free
-overflow_shl-free c = let ring = c.args.tallies.now.ring in omega (arith, ring.few, narrow (length ring.weights.now) c.args.head c.args.free c.requires.1)
+overflow_shl-free c = let ring = c.args.tallies.now.ring in omega (arith, ring.ordered.few, narrow (length ring.weights.now) c.args.head c.args.free c.requires.1)
 
 pub tally-whole-requires : goal.tally-whole-requires
 tally-whole-requires c =
@@ -34,18 +34,18 @@ tally-whole-requires c =
     let n = length ring.weights.now in
     omega (
       arith,
-      candidate n (c.args.head + 2 ^ c.args.free - 1) ring.few (omega (arith, c.requires.1, pow_pos c.args.free)),
-      last n c.args.head c.args.free ring.few c.requires.1,
+      candidate n (c.args.head + 2 ^ c.args.free - 1) ring.ordered.few (omega (arith, c.requires.1, pow_pos c.args.free)),
+      last n c.args.head c.args.free ring.ordered.few c.requires.1,
     )
 
 pub returns-then-whole-rule : goal.returns-then-whole-rule
 returns-then-whole-rule c _ =
     let ring = c.args.tallies.now.ring in
-    let h = rw (last (length ring.weights.now) c.args.head c.args.free ring.few c.requires.1) at c.tally-whole.ensures in
+    let h = rw (last (length ring.weights.now) c.args.head c.args.free ring.ordered.few c.requires.1) at c.tally-whole.ensures in
     light _ _ _ c.args.head _ _ c.requires.0 c.requires.1 (omega (arith, h.weighs, c.if-whole-rule.true))
 
 pub returns-else-whole-rule : goal.returns-else-whole-rule
 returns-else-whole-rule c e =
     let ring = c.args.tallies.now.ring in
-    let h = rw (last (length ring.weights.now) c.args.head c.args.free ring.few c.requires.1) at c.tally-whole.ensures in
-    shut _ _ _ c.args.head _ _ c.requires.0 c.requires.1 ring.paired (omega (arith, h.olds, c.args.tallies.now.waits, ltb-true _ _ e))
+    let h = rw (last (length ring.weights.now) c.args.head c.args.free ring.ordered.few c.requires.1) at c.tally-whole.ensures in
+    shut _ _ _ c.args.head _ _ c.requires.0 c.requires.1 ring.ordered.paired (omega (arith, h.olds, c.args.tallies.now.waits, ltb-true _ _ e))

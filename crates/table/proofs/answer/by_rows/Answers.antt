@@ -5,7 +5,7 @@ use Rattle.table.proofs.Bests.{reaches, rows_fit, window, none_found, best_found
 use Rattle.table.proofs.answer.by_rows.Goals as goal
 
 pub fill-requires-clause-reach : goal.fill-requires-clause-reach
-fill-requires-clause-reach c = reaches c.span-span.result c.requires.seen c.args.ring.paired c.of-shape.ensures.pad c.of-shape.ensures.blocks
+fill-requires-clause-reach c = reaches c.span-span.result c.requires.seen c.args.ring.ordered.paired c.of-shape.ensures.pad c.of-shape.ensures.blocks
 
 pub fill-requires-clause-enough : goal.fill-requires-clause-enough
 fill-requires-clause-enough c =
@@ -25,18 +25,18 @@ pub returns-in_err-x : goal.returns-in_err-x
 returns-in_err-x c =
     let r = c.args.ring in
     let t =
-    window c.requires.seen c.requires.leaves r.paired r.few c.span-span.ensures (omega (arith, c.of-shape.ensures.blocks)) c.fill.ensures
+    window c.requires.seen c.requires.leaves r.ordered.paired r.ordered.few c.span-span.ensures (omega (arith, c.of-shape.ensures.blocks)) c.fill.ensures
     c.saturating_sub-from.ensures c.min-limit.ensures in
     rw c.from_residual.ensures (none_found t c.in_err-x.ensures)
 
 pub read-requires-clause-reach : goal.read-requires-clause-reach
-read-requires-clause-reach c = reaches c.span-span.result c.requires.seen c.args.ring.paired c.of-shape.ensures.pad c.of-shape.ensures.blocks
+read-requires-clause-reach c = reaches c.span-span.result c.requires.seen c.args.ring.ordered.paired c.of-shape.ensures.pad c.of-shape.ensures.blocks
 
 pub returns : goal.returns
 returns c =
     let r = c.args.ring in
     let h = c.requires.seen in
     let t =
-    window h c.requires.leaves r.paired r.few c.span-span.ensures (omega (arith, c.of-shape.ensures.blocks)) c.fill.ensures
+    window h c.requires.leaves r.ordered.paired r.ordered.few c.span-span.ensures (omega (arith, c.of-shape.ensures.blocks)) c.fill.ensures
     c.saturating_sub-from.ensures c.min-limit.ensures in
     rw h.due (best_found t c.in_ok-x.ensures c.read.ensures)

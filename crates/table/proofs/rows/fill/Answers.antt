@@ -13,9 +13,9 @@ start_row-requires c =
 pub overflow_sub-before : goal.overflow_sub-before
 overflow_sub-before c =
     let few = rw c.pairs-pair.ensures at c.loop-pair.auto.pair in
-    let first = c.requires.free (2 * (c.loop-pair.pair - 1)) (omega (arith, few, c.args.ring.few, c.loop-pair-test.true)) in
-    let second = c.requires.free (2 * (c.loop-pair.pair - 1) + 1) (omega (arith, few, c.args.ring.few, c.loop-pair-test.true)) in
-    omega (arith, first, second, filling_before c.args.ring.paired c.loop-pair-test.true c.loop-pair.invariant)
+    let first = c.requires.free (2 * (c.loop-pair.pair - 1)) (omega (arith, few, c.args.ring.ordered.few, c.loop-pair-test.true)) in
+    let second = c.requires.free (2 * (c.loop-pair.pair - 1) + 1) (omega (arith, few, c.args.ring.ordered.few, c.loop-pair-test.true)) in
+    omega (arith, first, second, filling_before c.args.ring.ordered.paired c.loop-pair-test.true c.loop-pair.invariant)
 
 pub loop-pair-init : goal.loop-pair-init
 loop-pair-init c =
@@ -24,7 +24,7 @@ loop-pair-init c =
     let long : length c.start_row.new.row ≡ c.wide-wide.result = omega (arith, c.start_row.auto.row, take) in
     let short : c.args.shape.pad < c.wide-wide.result = omega (arith, c.wide-wide.ensures, c.args.shape.some) in
     rw c.pairs-pair.ensures
-    (filling_none _ _ _ _ _ _ _ _ _ c.args.ring.paired (omega (arith, c.wide-wide.ensures, c.args.shape.some)) c.requires.seen.free
+    (filling_none _ _ _ _ _ _ _ _ _ c.args.ring.ordered.paired (omega (arith, c.wide-wide.ensures, c.args.shape.some)) c.requires.seen.free
     (get_or_append_left c.start_row.new.row _ 0 c.args.shape.pad (omega (arith, long, short)) ∙ c.start_row.ensures.none)
     (λ x ne low. get_or_append_left c.start_row.new.row _ 0 x (omega (arith, long)) ∙ c.start_row.ensures.rest x ne (omega (arith, take))))
 
@@ -43,7 +43,7 @@ loop-pair-preserved c =
     let h = c.add_pair.ensures in
     let few = rw c.pairs-pair.ensures at c.loop-pair.auto.pair in
     let inside : c.wide-wide.result - c.args.shape.pad ≡ 64 * c.args.shape.blocks = omega (arith, c.wide-wide.ensures) in
-    filling_more c.args.ring.paired c.requires.ready c.loop-pair-test.true few (omega (arith, c.wide-wide.ensures, c.args.shape.some))
-    c.loop-pair.invariant (c.requires.free _ (omega (arith, few, c.args.ring.few, c.loop-pair-test.true))) (c.requires.free _ (omega (arith, few, c.args.ring.few, c.loop-pair-test.true))) (omega (arith, c.saturating_sub-low.ensures))
+    filling_more c.args.ring.ordered.paired c.requires.ready c.loop-pair-test.true few (omega (arith, c.wide-wide.ensures, c.args.shape.some))
+    c.loop-pair.invariant (c.requires.free _ (omega (arith, few, c.args.ring.ordered.few, c.loop-pair-test.true))) (c.requires.free _ (omega (arith, few, c.args.ring.ordered.few, c.loop-pair-test.true))) (omega (arith, c.saturating_sub-low.ensures))
     (λ x high low. omega (arith, c.min-high.ensures, filling_free c.loop-pair.invariant, c.requires.seen.free))
     (λ j less. h.same j (omega (arith, c.wide-wide.ensures))) (λ j less. rw inside (h.blank j less)) (λ x low below. rw c.wide-wide.ensures (h.made x low below)) (λ x high low. rw c.wide-wide.ensures (h.never x high (omega arith)))

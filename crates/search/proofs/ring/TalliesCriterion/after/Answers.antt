@@ -19,7 +19,7 @@ block n k t zeros free h =
 pub tally-requires : goal.tally-requires
 tally-requires c =
     let ring = c.args.self.now.ring in
-    candidate (length ring.weights.now) c.in-Some.b ring.few (omega (arith, c.requires.0, rw c.in-Some.is at c.requires.1))
+    candidate (length ring.weights.now) c.in-Some.b ring.ordered.few (omega (arith, c.requires.0, rw c.in-Some.is at c.requires.1))
 
 pub useless-requires : goal.useless-requires
 useless-requires c =
@@ -31,7 +31,7 @@ returns-then-useless c =
     let ring = c.args.self.now.ring in
     let t = c.min-free.result in
     let n = length ring.weights.now in
-    let shift : (1 * 2 ^ t) % 18446744073709551616 ≡ 2 ^ t = one_shl t 64 (omega (arith, ring.few, c.min-free.ensures)) in
+    let shift : (1 * 2 ^ t) % 18446744073709551616 ≡ 2 ^ t = one_shl t 64 (omega (arith, ring.ordered.few, c.min-free.ensures)) in
     let b = block n k t (omega (arith, c.min-free.ensures)) (omega (arith, c.min-free.ensures)) c.requires.0 in
     record {
       on = omega (arith, shift, pow_pos t);

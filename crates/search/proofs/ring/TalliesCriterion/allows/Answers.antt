@@ -7,10 +7,10 @@ use Rattle.search.proofs.Groups.{candidate}
 use Rattle.search.proofs.ring.TalliesCriterion.allows.Goals as goal
 
 pub tally-requires : goal.tally-requires
-tally-requires c = let ring = c.args.self.now.ring in candidate (length ring.weights.now) c.args.k ring.few c.requires
+tally-requires c = let ring = c.args.self.now.ring in candidate (length ring.weights.now) c.args.k ring.ordered.few c.requires
 
 pub returns : goal.returns
 returns c =
     let ring = c.args.self.now.ring in
     let n = length ring.weights.now in
-    c.fits.ensures ∙ rw c.args.self.now.waits (fits_is ring.rule ring.weights.now ring.ages.now (choice_of n c.args.k) _ (length_choice_of n c.args.k) ring.paired c.tally.ensures)
+    c.fits.ensures ∙ rw c.args.self.now.waits (fits_is ring.rule ring.weights.now ring.ages.now (choice_of n c.args.k) _ (length_choice_of n c.args.k) ring.ordered.paired c.tally.ensures)
