@@ -1,4 +1,4 @@
-// What is answered beside a bag: why nothing was taken, and what a season came to.
+//! What is answered beside a bag: why nothing was taken, and what a season came to.
 #![tactic(auto)]
 
 mod played;

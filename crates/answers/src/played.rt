@@ -1,8 +1,7 @@
-// What a season came to.
+//! What a season came to.
 
-// How many bags were made, what they weigh together, what of that was given away (all that is above so many targets), and
-// whether the season ended early, at a bag for which no choice fits.
-// The ending is a flag, since every number beside it holds either way: two kinds of season would carry the same fields twice.
+/// How many bags were made, what they weigh together, what of that was given away (all that is above so many targets), and
+/// whether the season ended early, at a bag for which no choice is allowed.
 #[derive(Clone, Copy, Debug, PartialEq, Eq)]
 pub struct Played {
     pub bags: u32,

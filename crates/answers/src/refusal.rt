@@ -1,25 +1,29 @@
-// What is turned away, and where.
+//! What is turned away, and where.
 
-// Each with its place, counted from 0.
+/// Why something is turned away, with its place in what was given; places count from 0.
+///
+/// The list of refusals is open at its end: a kind of bag or a question of its own adds `Further` ones.
 #[derive(Clone, Copy, Debug, PartialEq, Eq)]
 pub enum Refusal {
-    // Which number of the rule.
+    /// 1: which number of the rule.
     Rule(u64),
-    // How many pans or ages.
+    /// 2: how many pans, or how many ages.
     Pans(u64),
-    // Which weight or age, ages after weights.
+    /// 3: which weight or age, ages after weights, further lists behind these.
     Number(u64),
-    // The line of a text that can't be read.
-    Line(u64),
-    // How many entries the room has to have.
+    /// 4: it can't be done as asked; its place is the line that asks, which only the one who reads lines knows.
+    Line,
+    /// 5: how many entries the room has to have.
     Room(u64),
+    /// From 6 on: a refusal behind these in the list, by its number and its place.
+    Further { number: u64, place: u64 },
 }
 
 impl Refusal {
     ghost use Rattle.std.specs.Prelude.{◌≡◌};
     ghost use Rattle.answers.specs.Refusals.{lacked, passed, refusal_number, refusal_place};
 
-    // Refusal 5 where a room has less than is taken of it.
+    /// Refusal 5 where a room has less than is taken of it.
     pub fn unless_room(takes: usize, has: usize) -> Result<(), Refusal>
         ensures { result ≡ passed (lacked takes has) tt }
     {
@@ -30,7 +34,7 @@ impl Refusal {
         }
     }
 
-    // The refusal's number in the list of refusals, which an enum that holds places can't be cast to.
+    /// The refusal's number in the list of refusals, from 1 on.
     pub fn number(self) -> u64
         ensures { result ≡ refusal_number self }
     {
@@ -38,21 +42,23 @@ impl Refusal {
             Refusal::Rule(_) => 1,
             Refusal::Pans(_) => 2,
             Refusal::Number(_) => 3,
-            Refusal::Line(_) => 4,
+            Refusal::Line => 4,
             Refusal::Room(_) => 5,
+            Refusal::Further { number, .. } => number,
         }
     }
 
-    // Its place: an arm for each case, since each counts something else.
-    pub fn place(self) -> u64
-        ensures { result ≡ refusal_place self }
+    /// Its place, counted from 0, where `line` is what asked for it.
+    pub fn place(self, line: u64) -> u64
+        ensures { result ≡ refusal_place self line }
     {
         match self {
             Refusal::Rule(place) => place,
             Refusal::Pans(count) => count,
             Refusal::Number(place) => place,
-            Refusal::Line(line) => line,
+            Refusal::Line => line,
             Refusal::Room(entries) => entries,
+            Refusal::Further { place, .. } => place,
         }
     }
 }

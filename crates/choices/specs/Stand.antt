@@ -3,7 +3,13 @@
 --   stand        the stand of two lists
 --   InOrder      1 to 24 pans, an age for each, no weight and no age above 1,000,000
 --   RuleWithin   a target of at least 1, and no number of the rule above a limit
-use Rattle.std.specs.Prelude.{◌≡◌, ℕ, ◌≤◌, List, length, slice_index}
+--   May          which choices are allowed of each stand
+--   by_rule      those that fit a rule
+--   Allowed      what is known of every choice that is allowed, by whatever kind of bag: it opens no empty pan and every old
+--                one, and its bag is not above a top weight
+--   left_by      the stand that a choice leaves: opened pans are empty and of age 0, all others a bag older
+use Rattle.std.specs.Prelude.{◌≡◌, ℕ, ◌≤◌, Bool, true, List, length, slice_index}
+use Rattle.choices.specs.Choice.{Choice, weight_of, none_empty, keeps_old, fits, emptied, aged}
 use Rattle.choices.specs.declared.rule.Rule.{Rule}
 use Rattle.choices.specs.declared.limits.TheConstants.{LIMIT, PANS}
 
@@ -27,3 +33,18 @@ pub record RuleWithin (limit : ℕ) (r : Rule) : Type 0 where
   pub above : r.above ≤ limit
   pub pans : r.pans ≤ limit
   pub age : r.age ≤ limit
+
+abbrev pub May : Type 0
+May = Stand → Choice → Bool
+
+abbrev pub by_rule : Rule → May
+by_rule r s = fits r s.weights s.ages
+
+pub record Allowed (age top : ℕ) (s : Stand) (cs : Choice) : Type 0 where
+  pub whole : length cs ≡ length s.weights
+  pub filled : none_empty s.weights cs ≡ true
+  pub old : keeps_old age s.ages cs ≡ true
+  pub within : weight_of s.weights cs ≤ top
+
+abbrev pub left_by : Stand → Choice → Stand
+left_by s cs = stand (emptied s.weights cs) (aged s.ages cs)

@@ -1,2 +1,4 @@
 -- The definitions that contracts cite.
+pub mod Kinds
 pub mod Lacks
+pub mod Plain

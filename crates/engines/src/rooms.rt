@@ -1,12 +1,13 @@
-// Rooms lent for every engine, and which of them runs in these.
-ghost use Rattle.std.specs.Prelude.{None};
+//! Rooms lent for every engine, and which of them runs in these.
+ghost use Rattle.engines.specs.Lacks.{nothing_lacked};
 
 use answers::Refusal;
 use choices::Ring;
 use crate::finder::Finder;
 use order::Bag;
 
-// Entries for the two halves, and bytes for the table by weight, however many there are.
+/// Entries for the two halves, and bytes for the table by weight, however many there are: `halves::ROOM` entries and
+/// `TABLE_ROOM` bytes serve every ring as fast as can be. Where neither engine has enough, the scan runs.
 #[derive(Drop)]
 pub struct Rooms<'a> {
     pub entries: &'a mut [u64],
@@ -17,7 +18,7 @@ pub struct Rooms<'a> {
 const PAYS: usize = 100;
 
 impl<'a> Finder for Rooms<'a> {
-    ghost lacks = { λ _ _ _ _. None };
+    ghost lacks = { nothing_lacked };
 
     fn suffices(&self, _ring: Ring) -> Result<(), Refusal> {
         Ok(())

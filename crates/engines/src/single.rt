@@ -1,30 +1,30 @@
-// The three engines, each with the room that it is lent.
-ghost use Rattle.engines.specs.Lacks.{entries_lacked, bytes_lacked};
-ghost use Rattle.std.specs.Prelude.{length, None};
+//! The three engines, each with the room that it is lent.
+ghost use Rattle.engines.specs.Lacks.{bytes_lacked, entries_lacked, nothing_lacked};
+ghost use Rattle.std.specs.Prelude.{length};
 
 use crate::finder::Finder;
 use answers::Refusal;
 use choices::Ring;
 use order::Bag;
 
-// The scan, which takes no room.
+/// The scan, which takes no room.
 #[derive(Clone, Copy)]
 pub struct Scan;
 
-// The two halves, in lent entries.
+/// The two halves, in lent entries: `halves::room_for` of the pans are enough, and `halves::ROOM` for every ring.
 #[derive(Drop)]
 pub struct Halves<'a> {
     pub entries: &'a mut [u64],
 }
 
-// The table by weight, in lent bytes.
+/// The table by weight, in lent bytes: `table::room_for` of the ring are enough.
 #[derive(Drop)]
 pub struct Table<'a> {
     pub bytes: &'a mut [u8],
 }
 
 impl Finder for Scan {
-    ghost lacks = { λ _ _ _ _. None };
+    ghost lacks = { nothing_lacked };
 
     fn suffices(&self, _ring: Ring) -> Result<(), Refusal> {
         Ok(())
@@ -36,7 +36,7 @@ impl Finder for Scan {
 }
 
 impl<'a> Finder for Halves<'a> {
-    ghost lacks = { λ s _ ws _. entries_lacked ws (length s.entries.now) };
+    ghost lacks = { λ f r s. entries_lacked s (length f.entries.now) };
 
     fn suffices(&self, ring: Ring) -> Result<(), Refusal> {
         let takes = halves::room_for(ring.weights.len());
@@ -49,7 +49,7 @@ impl<'a> Finder for Halves<'a> {
 }
 
 impl<'a> Finder for Table<'a> {
-    ghost lacks = { λ s r ws as'. bytes_lacked r ws as' (length s.bytes.now) };
+    ghost lacks = { λ f r s. bytes_lacked r s (length f.bytes.now) };
 
     fn suffices(&self, ring: Ring) -> Result<(), Refusal> {
         if table::most_room_for(ring) <= self.bytes.len() {

@@ -6,6 +6,7 @@ use Rattle.std.proofs.lemmas.List.{drop-drop}
 use Rattle.std.proofs.lemmas.Bool.{cases_lt}
 use Rattle.choices.specs.Choice.{Choice, weight_of, opened}
 use Rattle.choices.specs.Numbered.{number_of}
+use Rattle.choices.proofs.Choices.{weighs_none}
 use Rattle.choices.proofs.Numbers.{number_lt}
 use Rattle.order.specs.Order.{first_more}
 use Rattle.exact.specs.Few.{Makes, Never, First, Picked, Heads, LeadsAt, Leads, Tells}
@@ -161,12 +162,6 @@ number_none (w ∷ ws) = omega (arith, number_none ws)
 
 pub picked_none : {ws : List ℕ} → Picked 0 ws 0 0
 picked_none {ws} = record { choice = shut_all ws; first = record { makes = makes_none ws; first = λ ds m. first_none ws ds m.counts }; is = sym (number_none ws) }
-
-weighs_none : (ws : List ℕ) (cs : Choice) → opened cs ≡ 0 → weight_of ws cs ≡ 0
-weighs_none [] cs none = refl
-weighs_none (w ∷ ws) [] none = refl
-weighs_none (w ∷ ws) (true ∷ cs) none = absurd (omega arith)
-weighs_none (w ∷ ws) (false ∷ cs) none = omega (arith, weighs_none ws cs (omega arith))
 
 pub never_none : {ws : List ℕ} {x : ℕ} → 0 < x → Never 0 ws x
 never_none {ws} some cs m = omega (arith, weighs_none ws cs m.counts, m.weighs)
