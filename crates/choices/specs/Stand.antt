@@ -8,7 +8,10 @@
 --   Allowed      what is known of every choice that is allowed, by whatever kind of bag: it opens no empty pan and every old
 --                one, and its bag is not above a top weight
 --   left_by      the stand that a choice leaves: opened pans are empty and of age 0, all others a bag older
-use Rattle.std.specs.Prelude.{◌≡◌, ℕ, ◌≤◌, Bool, true, List, length, slice_index}
+--   total        what lies in the pans together
+--   Young        no pan has waited for more bags than so many
+--   Looser       a rule that asks for no less: the same target, as much above, as many pans and as high an age, or more
+use Rattle.std.specs.Prelude.{◌≡◌, ℕ, ◌+◌, ◌≤◌, Bool, true, List, [], ◌∷◌, length, slice_index}
 use Rattle.choices.specs.Choice.{Choice, weight_of, none_empty, keeps_old, fits, emptied, aged}
 use Rattle.choices.specs.declared.rule.Rule.{Rule}
 use Rattle.choices.specs.declared.limits.TheConstants.{LIMIT, PANS}
@@ -48,3 +51,16 @@ pub record Allowed (age top : ℕ) (s : Stand) (cs : Choice) : Type 0 where
 
 abbrev pub left_by : Stand → Choice → Stand
 left_by s cs = stand (emptied s.weights cs) (aged s.ages cs)
+
+abbrev pub total : List ℕ → ℕ
+total [] = 0
+total (w ∷ ws) = w + total ws
+
+abbrev pub Young : ℕ → List ℕ → Type 0
+Young age as' = (i : ℕ) → slice_index as' i ≤ age
+
+pub record Looser (r q : Rule) : Type 0 where
+  pub target : q.target ≡ r.target
+  pub above : r.above ≤ q.above
+  pub pans : r.pans ≤ q.pans
+  pub age : r.age ≤ q.age

@@ -1,7 +1,8 @@
 -- What a finder with too little room turns a ring away for: refusal 5, with how much the ring takes. Assumes nothing: these are
 -- definitions.
 --   nothing_lacked   a finder that takes no room, or gets along with any
---   entries_lacked   of so many entries, the two halves
+--   too_few_entries  of so many entries, the two halves of so many pans
+--   entries_lacked   of so many entries, the two halves of a stand
 --   bytes_lacked     of so many bytes, the table by weight
 use Rattle.std.specs.Prelude.{ℕ, length, None, Option}
 use Rattle.answers.specs.Refusals.{lacked}
@@ -14,8 +15,11 @@ use Rattle.table.specs.Pans.{table_bytes}
 abbrev pub nothing_lacked : {F : Type 0} → F → Rule → Stand → Option Refusal
 nothing_lacked f r s = None
 
+abbrev pub too_few_entries : (pans entries : ℕ) → Option Refusal
+too_few_entries n = lacked (room_for n)
+
 abbrev pub entries_lacked : Stand → (entries : ℕ) → Option Refusal
-entries_lacked s = lacked (room_for (length s.weights))
+entries_lacked s = too_few_entries (length s.weights)
 
 abbrev pub bytes_lacked : Rule → Stand → (bytes : ℕ) → Option Refusal
 bytes_lacked r s = lacked (table_bytes r s.weights s.ages)

@@ -14,6 +14,21 @@ pub struct Rooms<'a> {
     pub bytes: &'a mut [u8],
 }
 
+impl<'a> Rooms<'a> {
+    ghost use Rattle.answers.specs.Refusals.{passed};
+    ghost use Rattle.std.specs.Prelude.{◌≡◌, ◌≤◌, length};
+    ghost use Rattle.engines.specs.Lacks.{too_few_entries};
+    ghost use Rattle.choices.specs.declared.limits.TheConstants.{PANS};
+
+    /// Refusal 5, with how many entries the two halves of so many pans take, where the room has fewer.
+    pub fn unless_halves(&self, pans: usize) -> Result<(), Refusal>
+        requires { pans ≤ PANS }
+        ensures { result ≡ passed (too_few_entries pans (length self.now.entries.now)) tt }
+    {
+        Refusal::unless_room(halves::room_for(pans), self.entries.len())
+    }
+}
+
 // A table of more bytes than so many times the halves' entries takes longer than the halves do (measured, see bench/).
 const PAYS: usize = 100;
 

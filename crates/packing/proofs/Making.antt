@@ -1,74 +1,103 @@
 -- A bag that was found and whose pans were opened is made; and two entries over the same pans answer the same.
-use Rattle.std.proofs.Common.{◌≡◌, ℕ, List, length, Some, None, Option, Ok, Err, sym, refl, ap, ◌∙◌, ap₂}
+use Rattle.std.proofs.Common.{◌≡◌, ℕ, ◌≤◌, true, false, List, length, Some, None, Option, Ok, Err, sym, refl, ap, ◌∙◌, ap₂, arith}
 use Rattle.std.proofs.lemmas.Bool.{le-leb, both_ways}
-use Rattle.choices.specs.Choice.{fits, emptied, aged, weight_of}
+use Rattle.std.proofs.lemmas.Bool.Decides.{nat_tests}
+use Rattle.std.specs.Prelude.{IsSomeAnd}
+use Rattle.choices.specs.Choice.{Choice, emptied, aged, weight_of}
 use Rattle.choices.specs.Numbered.{choice_from, number_of}
 use Rattle.choices.specs.Ruled.{rule_in}
+use Rattle.choices.specs.Stand.{Stand, stand, InOrder, May, by_rule, Allowed, left_by, Looser}
+use Rattle.choices.specs.declared.limits.TheConstants.{LIMIT}
 use Rattle.choices.specs.declared.rule.Rule.{Rule}
 use Rattle.choices.proofs.Choices.{fitting}
+use Rattle.choices.proofs.Leaving.{nothing_lost, left_young, left_in_order, looser_fits}
 use Rattle.choices.proofs.Numbers.{choice_from_number}
 use Rattle.halves.specs.Next.{room_for}
-use Rattle.order.specs.Order.{BestBag}
+use Rattle.order.specs.Order.{BestBag, BestOf, NoneOf, better}
 use Rattle.order.specs.declared.bag.Bag.{Bag}
 use Rattle.order.proofs.Orders.{best_is_one}
-use Rattle.packing.specs.Entry.{Made, Packs, Answer, Answered}
-use Rattle.packing.specs.Laws.{EntriesAgree, Alike}
-use Rattle.packing.specs.Refusals.{or_else, first_refusal, room_refusal}
+use Rattle.packing.specs.Entry.{Made, Packs, Answer, Answered, Kept, Keeps, Promised, Promises}
+use Rattle.packing.specs.Laws.{EntriesAgree}
+use Rattle.packing.specs.Refusals.{first_refusal, room_refusal}
+use Rattle.answers.specs.Refusals.{or_else}
 use Rattle.answers.specs.declared.refusal.Refusal.{Refusal}
 
+-- every allowed choice opens no empty pan and every old one, and is not too heavy
+abbrev pub Sound : May → (age top : ℕ) → Stand → Type 0
+Sound may age top s = (cs : Choice) → may s cs ≡ true → Allowed age top s cs
+
 pub made_by :
-    {r : Rule} {ws as' ws₁ as₁ : List ℕ} {b : Bag} → BestBag (fits r ws as') ws b → length as' ≡ length ws →
-    ws₁ ≡ emptied ws (choice_from (length ws) b.pans) → as₁ ≡ aged as' (choice_from (length as') b.pans) →
-    Made r ws as' b.pans b.weight ws₁ as₁
-made_by {r} {ws} {as'} {ws₁} {as₁} {b} f paired e g =
+    {may : May} {age top : ℕ} {s t : Stand} {b : Bag} → Sound may age top s → BestBag (may s) s.weights b → length s.ages ≡ length s.weights →
+    t.weights ≡ emptied s.weights (choice_from (length s.weights) b.pans) → t.ages ≡ aged s.ages (choice_from (length s.ages) b.pans) →
+    Made may s b.pans b.weight t
+made_by {s = s} {t} {b} sound f paired e g =
     record {
       choice = f.choice;
       best = f.best;
       number = f.number;
       weighs = f.weighs;
-      empties = e ∙ ap (emptied ws) chosen;
-      ages = g ∙ ap (aged as') (ap (λ (n : ℕ). choice_from n b.pans) paired ∙ chosen);
+      leaves = ap₂ stand (e ∙ ap (emptied s.weights) chosen) (g ∙ ap (aged s.ages) (ap (λ (n : ℕ). choice_from n b.pans) paired ∙ chosen));
     }
   where
-    chosen : choice_from (length ws) b.pans ≡ f.choice
-    chosen = ap₂ choice_from (sym (fitting r ws as' f.choice f.best.allowed).whole) f.number ∙ choice_from_number f.choice
+    chosen : choice_from (length s.weights) b.pans ≡ f.choice
+    chosen = ap₂ choice_from (sym (sound f.choice f.best.allowed).whole) f.number ∙ choice_from_number f.choice
+
+-- what is promised of every bag
+pub kept_by :
+    {may : May} {age top : ℕ} {s t : Stand} {b : Bag} → Sound may age top s → age ≤ LIMIT → InOrder s → Made may s b.pans b.weight t → Kept age s b t
+kept_by {s = s} sound small o m =
+    let a = sound m.choice m.best.allowed in
+    rw m.leaves
+    (record {
+      nothing_lost = omega (arith, m.weighs, nothing_lost s.weights m.choice);
+      young = left_young o.paired a;
+      ordered = left_in_order small o a;
+    })
 
 -- of the same pans by the same rule there is only one answer
-packed_alike :
-    (r : Rule) (ws as' : List ℕ) (d e : Option Bag) (ws₁ as₁ ws₂ as₂ : List ℕ) →
-    Packs r ws as' d ws₁ as₁ → Packs r ws as' e ws₂ as₂ → Alike (Ok d) ws₁ as₁ (Ok e) ws₂ as₂
-packed_alike r ws as' (Some b) (Some d) ws₁ as₁ ws₂ as₂ m k =
-    record {
-      answer = ap₂ (λ p w. Ok (Some (record { pans = p; weight = w }))) (m.number ∙ ap number_of same ∙ sym k.number) (m.weighs ∙ ap (weight_of ws) same ∙ sym k.weighs);
-      weights = m.empties ∙ ap (emptied ws) same ∙ sym k.empties;
-      ages = m.ages ∙ ap (aged as') same ∙ sym k.ages;
-    }
+packed_alike : (r : Rule) (s : Stand) (d e : Option Bag) (t u : Stand) → Packs (by_rule r) s d t → Packs (by_rule r) s e u → (d ≡ e) × (t ≡ u)
+packed_alike r s (Some b) (Some d) t u m k = (
+  ap₂ (λ p w. Some (record { pans = p; weight = w })) (m.number ∙ ap number_of same ∙ sym k.number) (m.weighs ∙ ap (weight_of s.weights) same ∙ sym k.weighs),
+  m.leaves ∙ ap (left_by s) same ∙ sym k.leaves,
+)
   where
     same : m.choice ≡ k.choice
-    same = best_is_one (fits r ws as') ws (length ws) (λ cs h. (fitting r ws as' cs h).whole) m.choice k.choice m.best k.best
-packed_alike r ws as' None None ws₁ as₁ ws₂ as₂ m k =
-    record { answer = refl; weights = m.1.weights ∙ sym k.1.weights; ages = m.1.ages ∙ sym k.1.ages }
-packed_alike r ws as' (Some b) None ws₁ as₁ ws₂ as₂ m k = absurd (both_ways _ (k.0 m.choice) m.best.allowed)
-packed_alike r ws as' None (Some d) ws₁ as₁ ws₂ as₂ m k = absurd (both_ways _ (m.0 k.choice) k.best.allowed)
+    same = best_is_one (by_rule r s) s.weights (length s.weights) (λ cs h. (fitting r s.weights s.ages cs h).whole) m.choice k.choice m.best k.best
+packed_alike r s None None t u m k = (refl, m.1 ∙ sym k.1)
+packed_alike r s (Some b) None t u m k = absurd (both_ways _ (k.0 m.choice) m.best.allowed)
+packed_alike r s None (Some d) t u m k = absurd (both_ways _ (m.0 k.choice) k.best.allowed)
 
 answered_alike :
-    (o : Option Refusal) (r : Rule) (ws as' : List ℕ) (d e : Answer) (ws₁ as₁ ws₂ as₂ : List ℕ) →
-    Answered o r ws as' d ws₁ as₁ → Answered o r ws as' e ws₂ as₂ → Alike d ws₁ as₁ e ws₂ as₂
-answered_alike None r ws as' (Ok d) (Ok e) ws₁ as₁ ws₂ as₂ m k = packed_alike r ws as' d e ws₁ as₁ ws₂ as₂ m k
-answered_alike None r ws as' (Err f) e ws₁ as₁ ws₂ as₂ m k = absurd m
-answered_alike None r ws as' (Ok d) (Err g) ws₁ as₁ ws₂ as₂ m k = absurd k
-answered_alike (Some f) r ws as' (Err g) (Err h) ws₁ as₁ ws₂ as₂ m k =
-    record { answer = ap Err (m.0 ∙ sym k.0); weights = m.1.weights ∙ sym k.1.weights; ages = m.1.ages ∙ sym k.1.ages }
-answered_alike (Some f) r ws as' (Ok d) e ws₁ as₁ ws₂ as₂ m k = absurd m
-answered_alike (Some f) r ws as' (Err g) (Ok e) ws₁ as₁ ws₂ as₂ m k = absurd k
+    (o : Option Refusal) (r : Rule) (s : Stand) (d e : Answer) (t u : Stand) → Answered o (by_rule r) s d t → Answered o (by_rule r) s e u →
+    (d ≡ e) × (t ≡ u)
+answered_alike None r s (Ok d) (Ok e) t u m k = let h = packed_alike r s d e t u m k in (ap Ok h.0, h.1)
+answered_alike None r s (Err f) e t u m k = absurd m
+answered_alike None r s (Ok d) (Err g) t u m k = absurd k
+answered_alike (Some f) r s (Err g) (Err h) t u m k = (ap Err (m.0 ∙ sym k.0), m.1 ∙ sym k.1)
+answered_alike (Some f) r s (Ok d) e t u m k = absurd m
+answered_alike (Some f) r s (Err g) (Ok e) t u m k = absurd k
 
 or_none : {X : Type 0} (o : Option X) → or_else o None ≡ o
 or_none None = refl
 or_none (Some x) = refl
 
 pub entries_agree : EntriesAgree
-entries_agree rs ws as' m d e ws₁ as₁ ws₂ as₂ enough a b =
-    answered_alike (first_refusal rs ws as') (rule_in rs) ws as' d e ws₁ as₁ ws₂ as₂ a (rw same at b)
+entries_agree rs s m d e t u enough a b = answered_alike (first_refusal 4 rs s) (rule_in rs) s d e t u a (rw same at b)
   where
-    same : room_refusal rs ws as' m ≡ first_refusal rs ws as'
-    same = rw (le-leb (room_for (length ws)) m enough) (or_none (first_refusal rs ws as'))
+    same : room_refusal rs s m ≡ first_refusal 4 rs s
+    same = rw (le-leb (room_for (length s.weights)) m enough) (or_none (first_refusal 4 rs s))
+
+-- what is not better is no lighter
+no_lighter : (ws : List ℕ) (cs ds : Choice) → better ws ds cs ≡ false → weight_of ws cs ≤ weight_of ws ds
+unfolding better
+no_lighter ws cs ds h = grind (arith, nat_tests)
+
+-- the best bag is no heavier than what a stricter rule allows, and there is one where a stricter rule allows something
+pub lightest :
+    (r : Rule) (s t : Stand) (b : Option Bag) → Packs (by_rule r) s b t → (q : Rule) (cs : Choice) → Looser q r → by_rule q s cs ≡ true →
+    IsSomeAnd b (λ x. x.weight ≤ weight_of s.weights cs)
+lightest r s t None m q cs l h = absurd (both_ways _ (m.0 cs) (looser_fits s cs l h))
+lightest r s t (Some b) m q cs l h = omega (arith, m.weighs, no_lighter s.weights m.choice cs (m.best.unbeaten cs (looser_fits s cs l h)))
+
+pub promised : (r : Rule) (s t : Stand) (b : Option Bag) → Keeps r.age s b t → Packs (by_rule r) s b t → Promised r s b t
+promised r s t b k m = record { keeps = k; lightest = lightest r s t b m }

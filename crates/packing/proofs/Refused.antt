@@ -6,9 +6,11 @@ use Rattle.std.proofs.lemmas.Bool.{leb-true, eqb-true, eq-eqb, and_parts, lt-leb
 use Rattle.packing.specs.Laws.{RefusalsAreExact}
 use Rattle.answers.specs.declared.refusal.Refusal.TheVariants.{Rule as RuleRefused, Pans, Number}
 use Rattle.answers.specs.declared.refusal.Refusal.{Refusal}
-use Rattle.packing.specs.Refusals.{Accepted, Ready, or_else, first_above, rule_fault, pans_fault, rule_refusal, pans_refusal, numbers_refusal, first_refusal}
-use Rattle.answers.specs.Refusals.{passed}
+use Rattle.packing.specs.Refusals.{Accepted, first_above, rule_fault, pans_fault, rule_refusal, pans_refusal, numbers_refusal, first_refusal}
+use Rattle.answers.specs.Refusals.{or_else, passed}
 use Rattle.choices.specs.Ruled.{rule_in}
+use Rattle.choices.specs.Stand.{Stand, RuleWithin}
+use Rattle.choices.specs.declared.limits.TheConstants.{LIMIT, PANS}
 
 pub first_above_append : (m i : ℕ) (xs ys : List ℕ) → first_above m i (xs ++ ys) ≡ or_else (first_above m i xs) (first_above m (i + length xs) ys)
 first_above_append m i [] ys = ap (λ (k : ℕ). first_above m k ys) {y = i + 0} (omega arith)
@@ -55,23 +57,26 @@ cond_none false o x h = absurd (some_none h)
 
 -- the three checks passed
 accepted :
-    {rs ws as' : List ℕ} → rule_fault rs ≡ None → pans_fault (length ws) (length as') ≡ None → first_above 1000000 0 (ws ++ as') ≡ None →
-    Accepted rs ws as'
-accepted {rs} {ws} {as'} r p n =
-    let four = cond_none (eqb (length rs) 4) _ _ r in
-    let rule = or_parts (first_above 1000000 0 rs) _ four.1 in
-    let pans = cond_none (leb 1 (length ws) && leb (length ws) 24) _ _ p in
-    let bounds = and_parts (leb 1 (length ws)) (leb (length ws) 24) pans.0 in
-    let numbers = or_parts (first_above 1000000 0 ws) _ (sym (first_above_append 1000000 0 ws as') ∙ n) in
+    {long : ℕ} {rs : List ℕ} {s : Stand} → rule_fault long rs ≡ None → pans_fault (length s.weights) (length s.ages) ≡ None →
+    first_above LIMIT 0 (s.weights ++ s.ages) ≡ None → Accepted long rs s
+accepted {long} {rs} {s} r p n =
+    let whole = cond_none (eqb (length rs) long) _ _ r in
+    let rule = or_parts (first_above LIMIT 0 rs) _ whole.1 in
+    let pans = cond_none (leb 1 (length s.weights) && leb (length s.weights) PANS) _ _ p in
+    let bounds = and_parts (leb 1 (length s.weights)) (leb (length s.weights) PANS) pans.0 in
+    let numbers = or_parts (first_above LIMIT 0 s.weights) _ (sym (first_above_append LIMIT 0 s.weights s.ages) ∙ n) in
     record {
-      four = eqb-true _ _ four.0;
+      long = eqb-true _ _ whole.0;
       some = leb-true _ _ (target (leb 1 (get_or rs 0 0)) rule.1);
-      small = none_above 1000000 0 rs rule.0;
-      present = leb-true _ _ bounds.0;
-      few = leb-true _ _ bounds.1;
-      paired = eqb-true _ _ (cond_none (eqb (length as') (length ws)) None _ pans.1).0;
-      light = none_above 1000000 0 ws numbers.0;
-      young = none_above 1000000 (0 + length ws) as' numbers.1;
+      small = none_above LIMIT 0 rs rule.0;
+      ordered =
+          record {
+            present = leb-true _ _ bounds.0;
+            few = leb-true _ _ bounds.1;
+            paired = eqb-true _ _ (cond_none (eqb (length s.ages) (length s.weights)) None _ pans.1).0;
+            light = none_above LIMIT 0 s.weights numbers.0;
+            young = none_above LIMIT (0 + length s.weights) s.ages numbers.1;
+          };
     }
   where
     target : (b : Bool) → cond {A = Option ℕ} b None (Some 0) ≡ None → b ≡ true
@@ -88,8 +93,8 @@ passed_as None x y e = (refl, cc)
 passed_as (Some f) x y e = absurd (let z : ◌≡◌ {A = ℕ} 0 1 = cc in omega arith)
 
 pub passed_all :
-    {rs ws as' : List ℕ} → rule_refusal rs ≡ None → pans_refusal (length ws) (length as') ≡ None → numbers_refusal (ws ++ as') ≡ None →
-    Accepted rs ws as'
+    {long : ℕ} {rs : List ℕ} {s : Stand} → rule_refusal long rs ≡ None → pans_refusal (length s.weights) (length s.ages) ≡ None →
+    numbers_refusal (s.weights ++ s.ages) ≡ None → Accepted long rs s
 passed_all r p n = accepted (mapped_none RuleRefused _ r) (mapped_none Pans _ p) (mapped_none Number _ n)
 
 pub none_below : (m i : ℕ) (xs : List ℕ) → ((k : ℕ) → get_or xs k 0 ≤ m) → first_above m i xs ≡ None
@@ -97,40 +102,28 @@ none_below m i [] h = refl
 none_below m i (x ∷ xs) h = rw (le-leb x m (h 0)) (none_below m (i + 1) xs (λ k. h (suc k)))
 
 pub refusals_are_exact : RefusalsAreExact
-refusals_are_exact rs ws as' = (gives, takes)
+refusals_are_exact long rs s = (gives, takes)
   where
-    gives : first_refusal rs ws as' ≡ None → Accepted rs ws as'
+    gives : first_refusal long rs s ≡ None → Accepted long rs s
     gives h =
-        let rule = or_parts (option_map RuleRefused (rule_fault rs)) _ h in
-        let rest = or_parts (option_map Pans (pans_fault (length ws) (length as'))) _ rule.1 in
+        let rule = or_parts (option_map RuleRefused (rule_fault long rs)) _ h in
+        let rest = or_parts (option_map Pans (pans_fault (length s.weights) (length s.ages))) _ rule.1 in
         passed_all rule.0 rest.0 rest.1
 
-    takes : Accepted rs ws as' → first_refusal rs ws as' ≡ None
+    takes : Accepted long rs s → first_refusal long rs s ≡ None
     takes a =
         rw (
-          eq-eqb (length rs) 4 a.four,
-          none_below 1000000 0 rs a.small,
+          eq-eqb (length rs) long a.long,
+          none_below LIMIT 0 rs a.small,
           le-leb 1 (get_or rs 0 0) a.some,
-          le-leb 1 (length ws) a.present,
-          le-leb (length ws) 24 a.few,
-          eq-eqb (length as') (length ws) a.paired,
-          first_above_append 1000000 0 ws as',
-          none_below 1000000 0 ws a.light,
-          none_below 1000000 (0 + length ws) as' a.young,
+          le-leb 1 (length s.weights) a.ordered.present,
+          le-leb (length s.weights) PANS a.ordered.few,
+          eq-eqb (length s.ages) (length s.weights) a.ordered.paired,
+          first_above_append LIMIT 0 s.weights s.ages,
+          none_below LIMIT 0 s.weights a.ordered.light,
+          none_below LIMIT (0 + length s.weights) s.ages a.ordered.young,
         )
 
--- what is accepted is in order
-pub ready : {rs ws as' : List ℕ} → Accepted rs ws as' → Ready (rule_in rs) ws as'
-ready a =
-    record {
-      some = a.some;
-      target = a.small 0;
-      above = a.small 1;
-      pans = a.small 2;
-      age = a.small 3;
-      present = a.present;
-      few = a.few;
-      paired = a.paired;
-      light = a.light;
-      young = a.young;
-    }
+-- a rule that is accepted is within the limits
+pub within : {long : ℕ} {rs : List ℕ} {s : Stand} → Accepted long rs s → RuleWithin LIMIT (rule_in rs)
+within a = record { some = a.some; target = a.small 0; above = a.small 1; pans = a.small 2; age = a.small 3 }

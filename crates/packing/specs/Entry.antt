@@ -1,46 +1,62 @@
--- What the entry answers, and what the lent pans hold afterwards. Assumes nothing: these are definitions.
---   Made       a bag was made: the best choice's number and weight, its pans emptied, all others a bag older
---   Same       nothing lent was changed
+-- What an entry answers, and how the lent pans stand afterwards, for every kind of bag. Assumes nothing: these are definitions.
+--   Made       a bag was made of a stand: the best choice's number and weight, and the stand that it leaves
+--   Packs      the best bag was made, or no choice whatever is allowed and nothing changed
 --   Answer     why nothing is taken, or the bag, or that there is none
+--   Answered   what each answer says: turned away, or packed
 --   Looked     what is answered where nothing is opened
---   Answered   what each answer says: turned away, the best bag, or that no choice whatever fits
-use Rattle.std.specs.Prelude.{◌≡◌, ℕ, List, Some, None, Option, Ok, Err, Result}
-use Rattle.choices.specs.Choice.{Choice, fits, weight_of, emptied, aged}
+--   Kept       what is promised of every bag: nothing is lost, no pan is too old afterwards, the pans are in order
+--   Keeps      the same where a bag was made
+--   Promised   what is promised of every answer by a rule: that, and no stricter rule makes a lighter bag, nor one at all where
+--              this rule makes none
+--   Promises   the same where nothing was turned away
+use Rattle.std.specs.Prelude.{◌≡◌, ℕ, ◌+◌, ◌≤◌, true, Some, None, Option, Ok, Err, Result, IsSomeAnd}
+use Rattle.choices.specs.Choice.{Choice, weight_of}
 use Rattle.choices.specs.Numbered.{number_of}
+use Rattle.choices.specs.Stand.{Stand, InOrder, May, by_rule, left_by, total, Young, Looser}
 use Rattle.choices.specs.declared.rule.Rule.{Rule}
 use Rattle.order.specs.Order.{BestOf, NoneOf, Found}
 use Rattle.order.specs.declared.bag.Bag.{Bag}
 use Rattle.answers.specs.declared.refusal.Refusal.{Refusal}
 
-pub record Made (r : Rule) (ws as' : List ℕ) (p w : ℕ) (ws₁ as₁ : List ℕ) : Type 0 where
+pub record Made (may : May) (s : Stand) (pans weight : ℕ) (t : Stand) : Type 0 where
   pub choice : Choice
-  pub best : BestOf (fits r ws as') ws choice
-  pub number : p ≡ number_of choice
-  pub weighs : w ≡ weight_of ws choice
-  pub empties : ws₁ ≡ emptied ws choice
-  pub ages : as₁ ≡ aged as' choice
+  pub best : BestOf (may s) s.weights choice
+  pub number : pans ≡ number_of choice
+  pub weighs : weight ≡ weight_of s.weights choice
+  pub leaves : t ≡ left_by s choice
 
-pub record Same (ws as' ws₁ as₁ : List ℕ) : Type 0 where
-  pub weights : ws₁ ≡ ws
-  pub ages : as₁ ≡ as'
-
--- a bag is made of pans that are in order, or there is none and nothing changes
-abbrev pub Packs : Rule → (ws as' : List ℕ) → Option Bag → (ws₁ as₁ : List ℕ) → Type 0
-Packs r ws as' None ws₁ as₁ = NoneOf (fits r ws as') × Same ws as' ws₁ as₁
-Packs r ws as' (Some b) ws₁ as₁ = Made r ws as' b.pans b.weight ws₁ as₁
+abbrev pub Packs : May → Stand → Option Bag → Stand → Type 0
+Packs may s None t = NoneOf (may s) × (t ≡ s)
+Packs may s (Some b) t = Made may s b.pans b.weight t
 
 abbrev pub Answer : Type 0
 Answer = Result (Option Bag) Refusal
 
-abbrev pub Answered : Option Refusal → Rule → (ws as' : List ℕ) → Answer → (ws₁ as₁ : List ℕ) → Type 0
-Answered None r ws as' (Ok b) ws₁ as₁ = Packs r ws as' b ws₁ as₁
-Answered None r ws as' (Err g) ws₁ as₁ = ⊥
-Answered (Some f) r ws as' (Ok b) ws₁ as₁ = ⊥
-Answered (Some f) r ws as' (Err g) ws₁ as₁ = (g ≡ f) × Same ws as' ws₁ as₁
+abbrev pub Answered : Option Refusal → May → Stand → Answer → Stand → Type 0
+Answered None may s (Ok b) t = Packs may s b t
+Answered None may s (Err g) t = ⊥
+Answered (Some f) may s (Ok b) t = ⊥
+Answered (Some f) may s (Err g) t = (g ≡ f) × (t ≡ s)
 
--- the same where nothing is opened
-abbrev pub Looked : Option Refusal → Rule → (ws as' : List ℕ) → Answer → Type 0
-Looked None r ws as' (Ok b) = Found (fits r ws as') ws b
-Looked None r ws as' (Err g) = ⊥
-Looked (Some f) r ws as' (Ok b) = ⊥
-Looked (Some f) r ws as' (Err g) = g ≡ f
+abbrev pub Looked : Option Refusal → May → Stand → Answer → Type 0
+Looked None may s (Ok b) = Found (may s) s.weights b
+Looked None may s (Err g) = ⊥
+Looked (Some f) may s (Ok b) = ⊥
+Looked (Some f) may s (Err g) = g ≡ f
+
+pub record Kept (age : ℕ) (s : Stand) (b : Bag) (t : Stand) : Type 0 where
+  pub nothing_lost : b.weight + total t.weights ≡ total s.weights
+  pub young : Young age t.ages
+  pub ordered : InOrder t
+
+abbrev pub Keeps : (age : ℕ) → Stand → Option Bag → Stand → Type 0
+Keeps age s None t = Unit {0}
+Keeps age s (Some b) t = Kept age s b t
+
+pub record Promised (r : Rule) (s : Stand) (b : Option Bag) (t : Stand) : Type 0 where
+  pub keeps : Keeps r.age s b t
+  pub lightest : (q : Rule) (cs : Choice) → Looser q r → by_rule q s cs ≡ true → IsSomeAnd b (λ x. x.weight ≤ weight_of s.weights cs)
+
+abbrev pub Promises : Rule → Stand → Answer → Stand → Type 0
+Promises r s (Ok b) t = Promised r s b t
+Promises r s (Err f) t = Unit {0}

@@ -1,4 +1,5 @@
 -- The definitions that contracts cite.
 pub mod Refusals
 pub mod Entry
+pub mod Kinds
 pub mod Laws

@@ -1,36 +1,46 @@
-// The entry: a bag is made of the lent pans, or it is said that none can be, or why nothing is taken.
+//! The entries: a bag is made of the lent pans, or it is said that none can be, or why nothing is taken.
 ghost use Rattle.choices.specs.Ruled.{rule_in};
-ghost use Rattle.packing.specs.Entry.{Answered};
+ghost use Rattle.choices.specs.Stand.{by_rule, stand};
+ghost use Rattle.packing.specs.Entry.{Answered, Promises};
 ghost use Rattle.packing.specs.Refusals.{first_refusal, room_refusal};
 ghost use Rattle.std.specs.Prelude.{length};
 
 use crate::one_bag::pack;
-use crate::refusal::{checked, checked_in};
+use crate::refusal::checked;
 use answers::Refusal;
 use engines::Rooms;
-use engines::Scan;
 use order::Bag;
 
-// Makes the best bag that the rule (target, above, pans, age) allows: its pans are then empty and of age 0, all others a
-// bag older. By the scan, with no room. Rule, weights and ages are three lent slices, as the line keeps them: two are written and
-// one is not, so a struct of them would be taken apart at once.
+/// Makes the best bag of the pans by `rule` (target, above, pans, age): its pans are then empty and of age 0, all others a bag
+/// older.
+///
+/// Weights are in the scale's unit, ages count bags, none above 1,000,000. Bit `i` of the answer's `pans` is pan `i`. Answers
+/// `None`, and changes nothing, where no choice at all fits. Refuses (1 to 3, places from 0) what is out of range, and changes
+/// nothing. It takes no room: the scan runs.
 pub fn bag(rule: &[u32], weights: &mut [u32], ages: &mut [u32]) -> Result<Option<Bag>, Refusal>
-    ensures { Answered (first_refusal rule.now weights.old ages.old) (rule_in rule.now) weights.old ages.old result weights.new ages.new }
+    ensures answer { Answered (first_refusal 4 rule.now (stand weights.old ages.old)) (by_rule (rule_in rule.now)) (stand weights.old ages.old) result (stand weights.new ages.new) }
+    ensures promises { Promises (rule_in rule.now) (stand weights.old ages.old) result (stand weights.new ages.new) }
 {
-    let rule = checked(rule, weights, ages)?;
-    Ok(pack(rule, weights, ages, &mut Scan))
+    let mut rule = checked(rule, 0, weights, ages)?;
+    let mut none = Rooms {
+        entries: &mut [],
+        bytes: &mut [],
+    };
+    Ok(pack(&mut rule, weights, ages, &mut none))
 }
 
-// The same over lent rooms, as fast as these allow: entries for the two halves, of which there have to be enough, and
-// bytes for the table by weight, however many there are.
+/// The same over lent rooms, as fast as these allow. It asks for room: refuses (5, how many entries the ring takes) where the
+/// entries are fewer than the two halves take. Bytes for the table by weight may be however many there are.
 pub fn bag_in(
     rule: &[u32],
     weights: &mut [u32],
     ages: &mut [u32],
     rooms: &mut Rooms,
 ) -> Result<Option<Bag>, Refusal>
-    ensures { Answered (room_refusal rule.now weights.old ages.old (length rooms.old.entries.now)) (rule_in rule.now) weights.old ages.old result weights.new ages.new }
+    ensures answer { Answered (room_refusal rule.now (stand weights.old ages.old) (length rooms.old.entries.now)) (by_rule (rule_in rule.now)) (stand weights.old ages.old) result (stand weights.new ages.new) }
+    ensures promises { Promises (rule_in rule.now) (stand weights.old ages.old) result (stand weights.new ages.new) }
 {
-    let rule = checked_in(rule, weights, ages, rooms.entries.len())?;
-    Ok(pack(rule, weights, ages, rooms))
+    let mut rule = checked(rule, 0, weights, ages)?;
+    rooms.unless_halves(weights.len())?;
+    Ok(pack(&mut rule, weights, ages, rooms))
 }

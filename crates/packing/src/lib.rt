@@ -1,4 +1,4 @@
-// The packing line's entries: what is turned away, and a bag made of the lent pans.
+//! The packing line's entries: what is turned away, and a bag made of the lent pans.
 #![tactic(auto)]
 
 mod entry;
@@ -13,4 +13,4 @@ pub use entry::{bag, bag_in};
 pub use finding::find;
 pub use laws::{entries_agree, refusals_are_exact};
 pub use one_bag::pack;
-pub use refusal::{checked, checked_in, first_above};
+pub use refusal::{checked, first_above};

@@ -1,4 +1,4 @@
-// What a bag leaves behind in the lent pans: opened ones empty and young, all others a bag older.
+//! What a bag leaves behind in the lent pans: opened ones empty and young, all others a bag older.
 ghost use Rattle.std.specs.Prelude.{◌≡◌, ℕ, ◌+◌, ◌^◌, ◌<◌, cond, length, slice_index};
 ghost use Rattle.choices.specs.Choice.{marked};
 ghost use Rattle.choices.specs.Numbered.{choice_from};

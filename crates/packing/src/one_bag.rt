@@ -1,18 +1,19 @@
-// A bag made of pans that are in order.
-ghost use Rattle.std.specs.Prelude.{◌≡◌, ℕ, ◌≤◌, length, slice_index, None};
+//! A bag of any kind, made of pans that are in order.
+ghost use Rattle.std.specs.Prelude.{◌≡◌, ℕ, ◌≤◌, length, slice_index};
 ghost use Rattle.choices.specs.Choice.{aged, emptied};
 ghost use Rattle.choices.specs.Numbered.{choice_from};
-ghost use Rattle.packing.specs.Entry.{Packs};
-ghost use Rattle.packing.specs.Refusals.{Ready};
+ghost use Rattle.choices.specs.Stand.{InOrder, stand};
+ghost use Rattle.choices.specs.declared.limits.TheConstants.{LIMIT};
+ghost use Rattle.packing.specs.Entry.{Keeps, Packs};
+ghost use Rattle.packing.specs.Kinds.{after_bag};
 
 use crate::marks::mark;
-use choices::{Ring, Rule};
-use engines::Finder;
+use engines::Kind;
 use order::Bag;
 
 // Opens the pans of a bag's number: they are then empty and of age 0, all others a bag older.
 fn open_pans(weights: &mut [u32], ages: &mut [u32], pans: u32)
-    requires { (i : ℕ) → slice_index ages.old i ≤ 1000000 }
+    requires { (i : ℕ) → slice_index ages.old i ≤ LIMIT }
     ensures empties { weights.new ≡ emptied weights.old (choice_from (length weights.old) pans) }
     ensures ages { ages.new ≡ aged ages.old (choice_from (length ages.old) pans) }
 {
@@ -20,23 +21,24 @@ fn open_pans(weights: &mut [u32], ages: &mut [u32], pans: u32)
     mark(ages, pans, 1);
 }
 
-// Makes the best bag, or none where no choice whatever fits: then nothing changes. Weights and ages are lent to be written,
-// which a `Ring` rules out, so what a ring knows of them is asked for here.
-pub fn pack<F: Finder>(
-    rule: Rule,
+/// Makes the best bag of a kind, or none where no choice whatever is allowed: then nothing changes, the kind neither.
+///
+/// What an entry checked is asked for: pans in order, and the kind ready for one bag of so many pans. Weights and ages are lent
+/// to be written, which a `Ring` rules out.
+pub fn pack<R, K: Kind<R>>(
+    kind: &mut K,
     weights: &mut [u32],
     ages: &mut [u32],
-    finder: &mut F,
+    rooms: &mut R,
 ) -> Option<Bag>
-    requires ready { Ready rule weights.old ages.old }
-    requires lent { F.lacks finder.old rule weights.old ages.old ≡ None }
-    ensures { Packs rule weights.old ages.old result weights.new ages.new }
+    requires pans { InOrder (stand weights.old ages.old) }
+    requires numbers { K.ready kind.old (length weights.old) 1 }
+    ensures bag { Packs (K.allows kind.old) (stand weights.old ages.old) result (stand weights.new ages.new) }
+    ensures keeps { Keeps (K.age kind.old) (stand weights.old ages.old) result (stand weights.new ages.new) }
+    ensures kind { kind.new ≡ after_bag K.after kind.old result }
 {
-    let bag = finder.best(Ring {
-        rule,
-        weights,
-        ages,
-    })?;
+    let bag = kind.best(weights, ages, rooms)?;
+    kind.made(weights.len(), bag.weight);
     open_pans(weights, ages, bag.pans);
     Some(bag)
 }

@@ -1,17 +1,12 @@
-// The checks of a rule and of lent pans, in the order of the list of refusals.
+//! The checks of a rule and of lent pans, in the order of the list of refusals.
 ghost use Rattle.std.specs.Prelude.{◌≡◌, ℕ, ◌+◌, ◌^◌, ◌<◌, ◌≤◌, ◌++◌, length, slice_index, OnOk};
 ghost use Rattle.answers.specs.Refusals.{passed};
 ghost use Rattle.choices.specs.Ruled.{rule_in};
-ghost use Rattle.packing.specs.Refusals.{Accepted, first_above, first_refusal, numbers_refusal, pans_refusal, room_refusal, rule_refusal};
+ghost use Rattle.choices.specs.Stand.{stand};
+ghost use Rattle.packing.specs.Refusals.{Accepted, first_above, first_refusal, numbers_refusal, pans_refusal, rule_refusal};
 
 use answers::Refusal;
-use choices::Rule;
-use halves::room_for;
-
-// No number of a rule, no weight and no age is above this.
-const LIMIT: u32 = 1_000_000;
-
-const PANS: usize = 24;
+use choices::{LIMIT, PANS, Rule};
 
 // The largest of some numbers, 0 where there are none.
 fn largest(numbers: &[u32]) -> u32
@@ -25,11 +20,12 @@ fn largest(numbers: &[u32]) -> u32
     most
 }
 
-// The place of the first number above the limit, counted from `from` on. It is looked for where there is one: the largest number is found
-// for several at once, the first above the limit one by one.
+/// The place of the first number above `LIMIT`, counted from `from` on; none where there is no such number.
+///
+/// The largest number decides whether there is one, since it is found for several numbers at once.
 pub fn first_above(numbers: &[u32], from: u64) -> Option<u64>
     requires { from + length numbers.now < 2 ^ 64 }
-    ensures { result ≡ first_above 1000000 from numbers.now }
+    ensures { result ≡ first_above LIMIT from numbers.now }
 {
     if largest(numbers) <= LIMIT {
         return None;
@@ -38,20 +34,22 @@ pub fn first_above(numbers: &[u32], from: u64) -> Option<u64>
     Some(from + place as u64)
 }
 
-// A rule in numbers: there are four, none is too large, and the target is not 0.
-fn rule_of(numbers: &[u32]) -> Result<Rule, Refusal>
-    ensures { result ≡ passed (rule_refusal numbers.now) (rule_in numbers.now) }
+// A rule in four numbers and `more` behind them: there are so many, none is too large, and the target is not 0.
+fn rule_of(numbers: &[u32], more: usize) -> Result<Rule, Refusal>
+    requires { more ≤ LIMIT }
+    ensures { result ≡ passed (rule_refusal (4 + more) numbers.now) (rule_in numbers.now) }
 {
-    let &[target, above, pans, age] = numbers else {
-        return Err(Refusal::Rule(numbers.len().min(4) as u64));
-    };
+    let long = 4 + more;
+    if numbers.len() != long {
+        return Err(Refusal::Rule(numbers.len().min(long) as u64));
+    }
     if let Some(place) = first_above(numbers, 0) {
         return Err(Refusal::Rule(place));
     }
-    if target == 0 {
+    if numbers[0] == 0 {
         return Err(Refusal::Rule(0));
     }
-    Ok(Rule::from([target, above, pans, age]))
+    Ok(Rule::from([numbers[0], numbers[1], numbers[2], numbers[3]]))
 }
 
 // How many pans and ages there are.
@@ -81,28 +79,16 @@ fn check_numbers(weights: &[u32], ages: &[u32]) -> Result<(), Refusal>
     }
 }
 
-// The rule of a bag that is asked for, where everything is in order; or the first refusal that applies, with its place.
-pub fn checked(rule: &[u32], weights: &[u32], ages: &[u32]) -> Result<Rule, Refusal>
-    ensures value { result ≡ passed (first_refusal rule.now weights.now ages.now) (rule_in rule.now) }
-    ensures taken { OnOk result (Accepted rule.now weights.now ages.now) }
+/// The rule that is asked for, where everything is in order, or the first refusal that applies (1 to 3, places from 0).
+///
+/// A rule in numbers is target, above, pans, age, and `more` numbers behind them, which a kind of bag has for itself.
+pub fn checked(rule: &[u32], more: usize, weights: &[u32], ages: &[u32]) -> Result<Rule, Refusal>
+    requires { more ≤ LIMIT }
+    ensures value { result ≡ passed (first_refusal (4 + more) rule.now (stand weights.now ages.now)) (rule_in rule.now) }
+    ensures taken { OnOk result (Accepted (4 + more) rule.now (stand weights.now ages.now)) }
 {
-    let rule = rule_of(rule)?;
+    let rule = rule_of(rule, more)?;
     check_pans(weights.len(), ages.len())?;
     check_numbers(weights, ages)?;
-    Ok(rule)
-}
-
-// The same for an entry over a room of so many entries, of which the ring's halves have to have enough.
-pub fn checked_in(
-    rule: &[u32],
-    weights: &[u32],
-    ages: &[u32],
-    entries: usize,
-) -> Result<Rule, Refusal>
-    ensures value { result ≡ passed (room_refusal rule.now weights.now ages.now entries) (rule_in rule.now) }
-    ensures taken { OnOk result (Accepted rule.now weights.now ages.now) }
-{
-    let rule = checked(rule, weights, ages)?;
-    Refusal::unless_room(room_for(weights.len()), entries)?;
     Ok(rule)
 }
