@@ -63,9 +63,9 @@ opens_some ws cs some = at (opened cs) refl
     at (suc n) e = omega arith
 
 -- what fits a rule opens no empty pan and every old one, and is not too heavy
-pub fits_allowed : (r : Rule) (s : Stand) (cs : Choice) → by_rule r s cs ≡ true → Allowed r.age (r.target + r.above) s cs
+pub fits_allowed : (r : Rule) (s : Stand) (cs : Choice) → by_rule r s cs ≡ true → Allowed r.age r.target (r.target + r.above) s cs
 fits_allowed r s cs h =
-    let f = fitting r s.weights s.ages cs h in record { whole = f.whole; filled = f.filled; old = f.waited; within = f.within }
+    let f = fitting r s.weights s.ages cs h in record { whole = f.whole; filled = f.filled; old = f.waited; enough = f.enough; within = f.within }
 
 -- where something is wanted, what fits opens a pan
 pub fits_opens : (r : Rule) (s : Stand) (cs : Choice) → 1 ≤ r.target → by_rule r s cs ≡ true → 1 ≤ opened cs

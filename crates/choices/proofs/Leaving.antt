@@ -34,11 +34,11 @@ emptied_light m (w ∷ ws) (true ∷ cs) h zero = omega arith
 emptied_light m (w ∷ ws) (false ∷ cs) h zero = h 0
 emptied_light m (w ∷ ws) (c ∷ cs) h (suc i) = emptied_light m ws cs (λ j. h (suc j)) i
 
-pub left_young : {age top : ℕ} {s : Stand} {cs : Choice} → length s.ages ≡ length s.weights → Allowed age top s cs → Young age (left_by s cs).ages
+pub left_young : {age least top : ℕ} {s : Stand} {cs : Choice} → length s.ages ≡ length s.weights → Allowed age least top s cs → Young age (left_by s cs).ages
 left_young {age} {s = s} {cs} paired a = aged_young age s.ages cs (a.whole ∙ sym paired) a.old
 
 -- after a bag the pans are in order again
-pub left_in_order : {age top : ℕ} {s : Stand} {cs : Choice} → age ≤ LIMIT → InOrder s → Allowed age top s cs → InOrder (left_by s cs)
+pub left_in_order : {age least top : ℕ} {s : Stand} {cs : Choice} → age ≤ LIMIT → InOrder s → Allowed age least top s cs → InOrder (left_by s cs)
 left_in_order {s = s} {cs} small o a =
     let long = length_marked _ s.weights cs in
     record {

@@ -6,7 +6,7 @@
 --   May          which choices are allowed of each stand
 --   by_rule      those that fit a rule
 --   Allowed      what is known of every choice that is allowed, by whatever kind of bag: it opens no empty pan and every old
---                one, and its bag is not above a top weight
+--                one, and its bag is not below a least weight and not above a top weight
 --   left_by      the stand that a choice leaves: opened pans are empty and of age 0, all others a bag older
 --   total        what lies in the pans together
 --   Young        no pan has waited for more bags than so many
@@ -43,10 +43,11 @@ May = Stand → Choice → Bool
 abbrev pub by_rule : Rule → May
 by_rule r s = fits r s.weights s.ages
 
-pub record Allowed (age top : ℕ) (s : Stand) (cs : Choice) : Type 0 where
+pub record Allowed (age least top : ℕ) (s : Stand) (cs : Choice) : Type 0 where
   pub whole : length cs ≡ length s.weights
   pub filled : none_empty s.weights cs ≡ true
   pub old : keeps_old age s.ages cs ≡ true
+  pub enough : least ≤ weight_of s.weights cs
   pub within : weight_of s.weights cs ≤ top
 
 abbrev pub left_by : Stand → Choice → Stand

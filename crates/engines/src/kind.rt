@@ -14,6 +14,9 @@ pub trait Kind<R> {
     /// A pan of this age, or older, has to be opened.
     ghost age: { Self → ℕ };
 
+    /// No bag weighs less.
+    ghost least: { Self → ℕ };
+
     /// No bag weighs more.
     ghost top: { Self → ℕ };
 
@@ -35,5 +38,5 @@ pub trait Kind<R> {
         requires within { weight ≤ top self.old }
         ensures { self.new ≡ after self.old weight };
 
-    ghost lawful: { Lawful allows age top after ready };
+    ghost lawful: { Lawful allows age least top after ready };
 }

@@ -1,7 +1,7 @@
 //! The plain kind of bag: what fits a rule.
 ghost use Rattle.choices.specs.Stand.{by_rule};
 ghost use Rattle.std.specs.Prelude.{◌≡◌};
-ghost use Rattle.engines.specs.Plain.{age_of, rule_lawful, rule_ready, same_rule, top_of};
+ghost use Rattle.engines.specs.Plain.{age_of, least_of, rule_lawful, rule_ready, same_rule, top_of};
 
 use crate::finder::Finder;
 use crate::kind::Kind;
@@ -13,6 +13,8 @@ impl<'a> Kind<Rooms<'a>> for Rule {
     ghost allows = { by_rule };
 
     ghost age = { age_of };
+
+    ghost least = { least_of };
 
     ghost top = { top_of };
 

@@ -1,36 +1,32 @@
-// What is promised of every ring and every row of bags, each promise asked for by a function's contract.
+//! Laws of every ring and of every row of bags, each asked for by a function's contract.
 #![tactic(auto)]
 
 ghost use Rattle.laws.specs.Examples.{EmptyAndOld, FewerPans, FirstPair};
-ghost use Rattle.laws.specs.Laws.{BagsWeighEnough, LooserIsLighter, NoPanWaitsTooLong, NothingLost, OneBestOrNone, RowsLoseNothing};
+ghost use Rattle.laws.specs.Laws.{BagsWeighEnough, NoPanWaitsTooLong, OneBestOrNone, RowsLoseNothing};
 
-// Either one choice is best, and only one, or no choice fits.
+use engines::Kind;
+
+/// Either one choice is best, and only one, or no choice fits.
 pub fn one_is_best_or_none()
     ensures { OneBestOrNone }
 {}
 
-// What goes into a bag leaves the pans, and what falls between bags is all that is added: nothing is lost.
-pub fn nothing_is_lost()
-    ensures bag { NothingLost }
-    ensures row { RowsLoseNothing }
+/// Of every kind of bag: what goes into bags leaves the pans, and what falls between bags is all that is added.
+pub fn nothing_is_lost<R, K: Kind<R>>()
+    ensures { RowsLoseNothing K.allows K.after }
 {}
 
-// A looser rule never makes the bag heavier.
-pub fn looser_is_lighter()
-    ensures { LooserIsLighter }
+/// Of every kind of bag: bag after bag no pan's age comes above the kind's.
+pub fn no_pan_waits_too_long<R, K: Kind<R>>()
+    ensures { NoPanWaitsTooLong K.allows K.age K.after }
 {}
 
-// Bag after bag no pan's age comes above the rule's.
-pub fn no_pan_waits_too_long()
-    ensures { NoPanWaitsTooLong }
+/// Of every kind of bag: so many bags weigh at least so many times the least, and at most so many times the most.
+pub fn bags_weigh_enough<R, K: Kind<R>>()
+    ensures { BagsWeighEnough K.allows K.least K.top K.after }
 {}
 
-// So many bags weigh at least so many targets, and at most so many times what may be above more.
-pub fn bags_weigh_enough()
-    ensures { BagsWeighEnough }
-{}
-
-// Three rings worked out by hand hold of the definitions.
+/// Three rings worked out by hand hold of the definitions.
 pub fn worked_examples()
     ensures pair { FirstPair }
     ensures fewer { FewerPans }

@@ -23,11 +23,11 @@ use Rattle.answers.specs.Refusals.{or_else}
 use Rattle.answers.specs.declared.refusal.Refusal.{Refusal}
 
 -- every allowed choice opens no empty pan and every old one, and is not too heavy
-abbrev pub Sound : May → (age top : ℕ) → Stand → Type 0
-Sound may age top s = (cs : Choice) → may s cs ≡ true → Allowed age top s cs
+abbrev pub Sound : May → (age least top : ℕ) → Stand → Type 0
+Sound may age least top s = (cs : Choice) → may s cs ≡ true → Allowed age least top s cs
 
 pub made_by :
-    {may : May} {age top : ℕ} {s t : Stand} {b : Bag} → Sound may age top s → BestBag (may s) s.weights b → length s.ages ≡ length s.weights →
+    {may : May} {age least top : ℕ} {s t : Stand} {b : Bag} → Sound may age least top s → BestBag (may s) s.weights b → length s.ages ≡ length s.weights →
     t.weights ≡ emptied s.weights (choice_from (length s.weights) b.pans) → t.ages ≡ aged s.ages (choice_from (length s.ages) b.pans) →
     Made may s b.pans b.weight t
 made_by {s = s} {t} {b} sound f paired e g =
@@ -44,7 +44,7 @@ made_by {s = s} {t} {b} sound f paired e g =
 
 -- what is promised of every bag
 pub kept_by :
-    {may : May} {age top : ℕ} {s t : Stand} {b : Bag} → Sound may age top s → age ≤ LIMIT → InOrder s → Made may s b.pans b.weight t → Kept age s b t
+    {may : May} {age least top : ℕ} {s t : Stand} {b : Bag} → Sound may age least top s → age ≤ LIMIT → InOrder s → Made may s b.pans b.weight t → Kept age s b t
 kept_by {s = s} sound small o m =
     let a = sound m.choice m.best.allowed in
     rw m.leaves
