@@ -4,7 +4,7 @@
 --   top_of       the most that a bag may weigh
 --   same_rule    a bag does not change the rule
 --   rule_ready   no number of the rule is above 1,000,000, whatever the pans and the bags
-use Rattle.std.specs.Prelude.{◌≡◌, ℕ, ◌+◌, refl}
+use Rattle.std.specs.Prelude.{ℕ, ◌+◌, refl}
 use Rattle.choices.specs.Stand.{by_rule, RuleWithin}
 use Rattle.choices.specs.declared.rule.Rule.{Rule}
 use Rattle.choices.specs.declared.limits.TheConstants.{LIMIT}

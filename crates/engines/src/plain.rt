@@ -34,6 +34,5 @@ impl<'a> Kind<Rooms<'a>> for Rule {
 
     fn made(&mut self, _pans: usize, _weight: u32)
         ensures { self.new ≡ same_rule self.old _weight }
-    {
-    }
+    {}
 }

@@ -1,9 +1,9 @@
 //! Rooms lent for every engine, and which of them runs in these.
 ghost use Rattle.engines.specs.Lacks.{nothing_lacked};
 
+use crate::finder::Finder;
 use answers::Refusal;
 use choices::Ring;
-use crate::finder::Finder;
 use order::Bag;
 
 /// Entries for the two halves, and bytes for the table by weight, however many there are: `halves::ROOM` entries and

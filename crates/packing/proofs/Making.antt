@@ -13,10 +13,10 @@ use Rattle.choices.proofs.Choices.{fitting}
 use Rattle.choices.proofs.Leaving.{nothing_lost, left_young, left_in_order, looser_fits}
 use Rattle.choices.proofs.Numbers.{choice_from_number}
 use Rattle.halves.specs.Next.{room_for}
-use Rattle.order.specs.Order.{BestBag, BestOf, NoneOf, better}
+use Rattle.order.specs.Order.{BestBag, better}
 use Rattle.order.specs.declared.bag.Bag.{Bag}
 use Rattle.order.proofs.Orders.{best_is_one}
-use Rattle.packing.specs.Entry.{Made, Packs, Answer, Answered, Kept, Keeps, Promised, Promises}
+use Rattle.packing.specs.Entry.{Made, Packs, Answer, Answered, Kept, Keeps, Promised}
 use Rattle.packing.specs.Laws.{EntriesAgree}
 use Rattle.packing.specs.Refusals.{first_refusal, room_refusal}
 use Rattle.answers.specs.Refusals.{or_else}

@@ -1,7 +1,8 @@
 -- A loop that lets handfuls fall into the empty pans, in place.
 use Rattle.std.proofs.Common.{◌≡◌, ℕ, zero, suc, ◌+◌, ◌%◌, ◌<◌, ◌≤◌, ◌⊎◌, List, [], ◌∷◌, ◌++◌, length, get_or, take, drop, set, sym, refl, ap, ◌∙◌, inl, inr, arith}
 use Rattle.std.proofs.lemmas.List.{append_assoc, append-nil, take_more_set, drop-set-lt, drop_more, take_all, drop_all}
-use Rattle.laws.specs.Rows.{total, Falls, done, keeps, takes}
+use Rattle.choices.specs.Stand.{total}
+use Rattle.laws.specs.Rows.{Falls, done, keeps, takes}
 use Rattle.seasons.specs.Handfuls.{on, hands, place, empties, filled}
 
 pub on_is : (hs : List ℕ) (p : ℕ) → p < length hs → on hs p ≡ (p + 1) % length hs

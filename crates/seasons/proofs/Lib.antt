@@ -1,3 +1,4 @@
 -- The lemmas that several proofs share.
 mod Filling
 mod Playing
+mod ByRule

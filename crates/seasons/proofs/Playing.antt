@@ -1,124 +1,152 @@
--- A season bag by bag: the ring stays in order, and what is told of it adds up.
-use Rattle.std.proofs.Common.{◌≡◌, ℕ, zero, suc, ◌+◌, ◌*◌, ◌<◌, ◌≤◌, Bool, true, false, List, [], ◌∷◌, length, get_or, None, MatchBool, sym, refl, ap, ◌∙◌, add-mul, add-one, arith}
-use Rattle.choices.specs.Choice.{Choice, fits, emptied}
+-- A season of any kind, bag by bag: the pans stay in order, the kind goes on, and what is told adds up.
+use Rattle.std.proofs.Common.{◌≡◌, ℕ, suc, ◌+◌, ◌-◌, ◌*◌, ◌<◌, ◌≤◌, Bool, true, List, length, get_or, MatchBool, sym, refl, ap, ◌∙◌, add-mul, add-one, arith}
+use Rattle.choices.specs.Stand.{Stand, stand, InOrder, May, by_rule, total}
+use Rattle.choices.specs.declared.limits.TheConstants.{LIMIT}
 use Rattle.choices.specs.declared.rule.Rule.{Rule}
-use Rattle.choices.proofs.Choices.{fitting}
+use Rattle.choices.proofs.Choices.{weight_le, opened_le}
+use Rattle.choices.proofs.Leaving.{length_marked, left_in_order}
+use Rattle.engines.specs.Kinds.{Lawful}
+use Rattle.engines.specs.Plain.{same_rule}
 use Rattle.order.specs.Order.{NoneOf}
 use Rattle.packing.specs.Entry.{Made}
-use Rattle.choices.specs.Ruled.{rule_in}
-use Rattle.packing.specs.Refusals.{Accepted, Ready, first_refusal}
-use Rattle.packing.proofs.Refused.{ready, refusals_are_exact}
-use Rattle.laws.specs.Rows.{Stand, total, Falls, Bags, start, next}
-use Rattle.laws.proofs.Rows.{made_young, made_paired, length_falls, length_marked, bags_weigh_enough, no_pan_waits_too_long, rows_lose_nothing}
+use Rattle.laws.specs.Rows.{Falls, Bags, start, next}
+use Rattle.laws.proofs.Rows.{length_falls, bags_same, bags_weigh_enough, no_pan_waits_too_long, rows_lose_nothing}
 use Rattle.seasons.specs.Handfuls.{hands, place, empties, filled}
-use Rattle.seasons.specs.Season.{stand, Season, start as begins, next as goes, Plays, Kept}
-use Rattle.answers.specs.declared.played.Played.{Played}
+use Rattle.seasons.specs.Season.{refilled, Course, start as begins, next as goes, Kept, Plays}
 use Rattle.seasons.proofs.Filling.{falls_filled, length_hands, hands_small, filled_small, hands_add, place_add, total_append}
 
 -- handfuls of a list fall into all empty pans
 hands_fall : (hs ws : List ℕ) (i : ℕ) → Falls ws (filled ws (hands hs i (empties ws))) (total (hands hs i (empties ws)))
 hands_fall hs ws i = falls_filled ws (hands hs i (empties ws)) (length_hands hs i (empties ws))
 
--- a season is a row of bags
-pub season_bags : {r : Rule} {hs : List ℕ} {s t : Stand} {k n v : ℕ} → Season r hs s t k n v → Bags r s t n v (total (hands hs 0 k))
-season_bags begins = start
-season_bags {r} {hs} {s} (goes {t} {k} {n} {v} {p} {w} {ws₁} {as₁} h m) =
-    let e : total (hands hs 0 k) + total (hands hs (place hs 0 k) (empties ws₁)) ≡ total (hands hs 0 (k + empties ws₁)) =
-    sym (total_append (hands hs 0 k) (hands hs (place hs 0 k) (empties ws₁))) ∙ ap total (hands_add hs 0 k (empties ws₁)) in
-    rw e at (next (season_bags h) m (hands_fall hs ws₁ (place hs 0 k)))
+abbrev Small : List ℕ → Type 0
+Small hs = (i : ℕ) → get_or hs i 0 ≤ LIMIT
 
-emptied_small : (m : ℕ) (ws : List ℕ) (cs : Choice) → ((i : ℕ) → get_or ws i 0 ≤ m) → (i : ℕ) → get_or (emptied ws cs) i 0 ≤ m
-emptied_small m [] cs h i = omega arith
-emptied_small m (w ∷ ws) [] h i = h i
-emptied_small m (w ∷ ws) (true ∷ cs) h zero = omega arith
-emptied_small m (w ∷ ws) (false ∷ cs) h zero = h 0
-emptied_small m (w ∷ ws) (c ∷ cs) h (suc i) = emptied_small m ws cs (λ j. h (suc j)) i
-
--- after a bag and the handfuls behind it everything is in order again
-pub ready_next :
-    {r : Rule} {ws as' ws₁ as₁ : List ℕ} {p w : ℕ} (hs : List ℕ) (i : ℕ) → ((j : ℕ) → get_or hs j 0 ≤ 1000000) → Ready r ws as' → Made r ws as' p w ws₁ as₁ →
-    Ready r (filled ws₁ (hands hs i (empties ws₁))) as₁
-ready_next {r} {ws} {as'} {ws₁} {as₁} hs i small y m =
-    let fall = hands_fall hs ws₁ i in
-    let paired = made_paired y.paired m fall in
-    let long : length (filled ws₁ (hands hs i (empties ws₁))) ≡ length ws = length_falls fall ∙ ap length m.empties ∙ length_marked _ ws m.choice in
+-- the handfuls leave the pans in order
+refilled_in_order : (hs : List ℕ) (i : ℕ) (u : Stand) → Small hs → InOrder u → InOrder (refilled hs i u)
+refilled_in_order hs i u small o =
+    let long = length_falls (hands_fall hs u.weights i) in
     record {
-      some = y.some;
-      target = y.target;
-      above = y.above;
-      pans = y.pans;
-      age = y.age;
-      present = omega (arith, long, y.present);
-      few = omega (arith, long, y.few);
-      paired = paired;
-      light = filled_small 1000000 ws₁ (hands hs i (empties ws₁)) (rw m.empties (emptied_small 1000000 ws m.choice y.light)) (hands_small 1000000 hs small i (empties ws₁));
-      young = λ j. omega (arith, made_young y.paired m j, y.age);
+      present = omega (arith, long, o.present);
+      few = omega (arith, long, o.few);
+      paired = o.paired ∙ sym long;
+      light = filled_small LIMIT u.weights (hands hs i (empties u.weights)) o.light (hands_small LIMIT hs small i (empties u.weights));
+      young = o.young;
     }
 
--- what is known in the midst of a season: k handfuls have fallen, and p is the place of the next
-pub record Playing (r : Rule) (hs : List ℕ) (s t : Stand) (p n v : ℕ) : Type 0 where
+-- what is known in the midst of a season: so many handfuls have fallen, and p is the place of the next
+pub record Playing {K : Type 0} (allows : K → May) (after : K → (weight : ℕ) → K) (hs : List ℕ) (first : K) (s : Stand) (k : K) (t : Stand) (p n v : ℕ) : Type 0 where
   pub handfuls : ℕ
-  pub plays : Season r hs s t handfuls n v
+  pub course : Course allows after hs first s k t handfuls n v
   pub placed : p ≡ place hs 0 handfuls
   pub within : 0 < length hs → p < length hs
-  pub ready : Ready r t.weights t.ages
-  pub enough : n * r.target ≤ v
-  pub bound : v ≤ n * 2000000
+  pub bound : v ≤ n * 24000000
 
-pub playing_none : {r : Rule} {hs : List ℕ} {s : Stand} → Ready r s.weights s.ages → Playing r hs s s 0 0 0
-playing_none y = record { handfuls = 0; plays = begins; placed = refl; within = λ l. l; ready = y; enough = omega arith; bound = omega arith }
+pub playing_none : {K : Type 0} {allows : K → May} {after : K → (weight : ℕ) → K} {hs : List ℕ} {k : K} {s : Stand} → Playing allows after hs k s k s 0 0 0
+playing_none = record { handfuls = 0; course = begins; placed = refl; within = λ l. l; bound = omega arith }
 
--- one bag more, and the handfuls behind it
-pub playing_more :
-    {r : Rule} {hs : List ℕ} {s t : Stand} {i j n v p w : ℕ} {ws₁ as₁ ws₂ : List ℕ} → ((k : ℕ) → get_or hs k 0 ≤ 1000000) →
-    Playing r hs s t i n v → Made r t.weights t.ages p w ws₁ as₁ →
-    j ≡ place hs i (empties ws₁) → (0 < length hs → j < length hs) → ws₂ ≡ filled ws₁ (hands hs i (empties ws₁)) →
-    Playing r hs s (stand ws₂ as₁) j (n + 1) (v + w)
-playing_more {r} {hs} {s} {t} {i} {j} {n} {v} {p} {w} {ws₁} {as₁} {ws₂} small g m e l f =
-    let b = fitting r t.weights t.ages m.choice m.best.allowed in
-    let same : ws₂ ≡ filled ws₁ (hands hs (place hs 0 g.handfuls) (empties ws₁)) = f ∙ ap (λ (k : ℕ). filled ws₁ (hands hs k (empties ws₁))) g.placed in
-    record {
-      handfuls = g.handfuls + empties ws₁;
-      plays = rw (same, add-one n) (goes g.plays m);
-      placed = e ∙ ap (λ (k : ℕ). place hs k (empties ws₁)) g.placed ∙ place_add hs 0 g.handfuls (empties ws₁);
-      within = l;
-      ready = rw f (ready_next hs i small g.ready m);
-      enough = omega (arith, add-mul n 1 r.target, m.weighs, b.enough, g.enough);
-      bound = omega (arith, m.weighs, b.within, g.bound, g.ready.target, g.ready.above);
-    }
+module _ {K : Type 0} {allows : K → May} {age least top : K → ℕ} {after : K → (weight : ℕ) → K} {ready : K → (pans bags : ℕ) → Type 0}
+    (law : Lawful allows age least top after ready) where
+  -- a season is a row of bags
+  season_bags :
+      {hs : List ℕ} {first : K} {s : Stand} {k : K} {t : Stand} {j n v : ℕ} → Course allows after hs first s k t j n v → Bags allows after first s k t n v (total (hands hs 0 j))
+  season_bags begins = start
+  season_bags {hs} (goes {u = u} {j = j} h m) =
+      let e : total (hands hs 0 j) + total (hands hs (place hs 0 j) (empties u.weights)) ≡ total (hands hs 0 (j + empties u.weights)) =
+      sym (total_append (hands hs 0 j) (hands hs (place hs 0 j) (empties u.weights))) ∙ ap total (hands_add hs 0 j (empties u.weights)) in
+      rw e at (next (season_bags h) m (hands_fall hs u.weights (place hs 0 j)))
 
--- at every bag of a season the ring is in order
-season_ready : {r : Rule} {hs : List ℕ} {s t : Stand} {k n v : ℕ} → ((i : ℕ) → get_or hs i 0 ≤ 1000000) → Ready r s.weights s.ages → Season r hs s t k n v → Ready r t.weights t.ages
-season_ready small y begins = y
-season_ready {hs = hs} small y (goes {k = k} h m) = ready_next hs (place hs 0 k) small (season_ready small y h) m
+  -- a bag of pans in order leaves them so
+  made_in_order : {k : K} {t u : Stand} {p w : ℕ} → age k ≤ LIMIT → InOrder t → Made (allows k) t p w u → InOrder u
+  made_in_order {k} {t} small o m = rw m.leaves (left_in_order small o (law.sound k t m.choice m.best.allowed))
 
--- a season of no bags
-none_played : {r : Rule} {hs : List ℕ} {s t : Stand} {k n v : ℕ} → Season r hs s t k n v → n ≡ 0 → (t.weights ≡ s.weights) × (t.ages ≡ s.ages)
-none_played begins e = (refl, refl)
-none_played (goes h m) e = absurd (omega arith)
+  pub course_ordered :
+      {hs : List ℕ} {first : K} {s : Stand} {k : K} {t : Stand} {j n v : ℕ} → Small hs → age first ≤ LIMIT → InOrder s → Course allows after hs first s k t j n v → InOrder t
+  course_ordered small young o begins = o
+  course_ordered {hs} small young o (goes {u = u} {j = j} h m) =
+      refilled_in_order hs (place hs 0 j) u small
+      (made_in_order (omega (arith, (bags_same law (season_bags h)).0)) (course_ordered small young o h) m)
 
--- what is promised of a season holds of what is played
-pub kept :
-    (rs hs ws as' ws₁ as₁ : List ℕ) (wanted : ℕ) (p : Played) → Accepted rs ws as' → ((i : ℕ) → get_or hs i 0 ≤ 1000000) →
-    Plays (rule_in rs) hs wanted ws as' ws₁ as₁ p → Kept rs hs wanted ws as' ws₁ as₁ p
-kept rs hs ws as' ws₁ as₁ wanted p a small g =
-    let row = season_bags g.plays in
-    let weigh = bags_weigh_enough _ _ _ _ _ _ row in
-    record {
-      young = λ y. no_pan_waits_too_long _ _ _ _ _ _ a.paired y row;
-      enough = weigh.0;
-      within = weigh.1;
-      handfuls = g.handfuls;
-      nothing_lost = rows_lose_nothing _ _ _ _ _ _ row;
-      never = λ t k n v h. taken t (season_ready small (ready a) h);
-      still = λ e. let s = none_played g.plays (few p.ended_early e g.ends) in record { weights = s.0; ages = s.1 };
-    }
-  where
-    taken : (t : Stand) → Ready (rule_in rs) t.weights t.ages → first_refusal rs t.weights t.ages ≡ None
-    taken t y =
-        (refusals_are_exact rs t.weights t.ages).1
-        (record { four = a.four; some = a.some; small = a.small; present = y.present; few = y.few; paired = y.paired; light = y.light; young = y.young })
+  -- as many pans as at the start
+  course_long : {hs : List ℕ} {first : K} {s : Stand} {k : K} {t : Stand} {j n v : ℕ} → Course allows after hs first s k t j n v → length t.weights ≡ length s.weights
+  course_long begins = refl
+  course_long {hs} (goes {t = t} {u = u} {j = j} h m) =
+      length_falls (hands_fall hs u.weights (place hs 0 j)) ∙ ap (λ (x : Stand). length x.weights) m.leaves ∙ length_marked _ t.weights m.choice ∙ course_long h
 
-    few : (b : Bool) → wanted ≡ 0 → MatchBool b ((p.bags < wanted) × NoneOf (fits (rule_in rs) ws₁ as₁)) (p.bags ≡ wanted) → p.bags ≡ 0
-    few true e h = omega (arith, h.0)
-    few false e h = h ∙ e
+  -- at every bag the kind is ready for those that are left
+  pub course_ready :
+      {hs : List ℕ} {first : K} {s : Stand} {k : K} {t : Stand} {j n v : ℕ} (wanted : ℕ) → ready first (length s.weights) wanted →
+      Course allows after hs first s k t j n v → n ≤ wanted → ready k (length t.weights) (wanted - n)
+  course_ready wanted y begins l = rw (e wanted) y
+    where
+      e : (m : ℕ) → m - 0 ≡ m
+      e m = omega arith
+  course_ready {hs} {first} {s} wanted y (goes {k = k} {t = t} {u = u} {j = j} {n = n} {w = w} h m) l =
+      let e : wanted - n ≡ suc (wanted - suc n) = omega arith in
+      let before : ready k (length t.weights) (suc (wanted - suc n)) = rw e at (course_ready wanted y h (omega arith)) in
+      let long : length (refilled hs (place hs 0 j) u).weights ≡ length t.weights = course_long (goes h m) ∙ sym (course_long h) in
+      rw (long, m.weighs) (law.goes_on k t m.choice (wanted - suc n) before m.best.allowed)
+
+  none_played : {hs : List ℕ} {first : K} {s : Stand} {k : K} {t : Stand} {j n v : ℕ} → Course allows after hs first s k t j n v → n ≡ 0 → t ≡ s
+  none_played begins e = refl
+  none_played (goes h m) e = absurd (omega arith)
+
+  -- one bag more, and the handfuls behind it
+  pub playing_more :
+      {hs : List ℕ} {first : K} {s : Stand} {k : K} {t : Stand} {u : Stand} {i j n v p w : ℕ} {ws : List ℕ} → InOrder t →
+      Playing allows after hs first s k t i n v → Made (allows k) t p w u →
+      j ≡ place hs i (empties u.weights) → (0 < length hs → j < length hs) → ws ≡ filled u.weights (hands hs i (empties u.weights)) →
+      Playing allows after hs first s (after k w) (stand ws u.ages) j (n + 1) (v + w)
+  playing_more {hs} {k = k} {t} {u} {i} {j} {n} {v} {p} {w} {ws} o g m e l f =
+      let same : ws ≡ filled u.weights (hands hs (place hs 0 g.handfuls) (empties u.weights)) =
+      f ∙ ap (λ (x : ℕ). filled u.weights (hands hs x (empties u.weights))) g.placed in
+      record {
+        handfuls = g.handfuls + empties u.weights;
+        course = rw (same, add-one n) (goes g.course m);
+        placed = e ∙ ap (λ (x : ℕ). place hs x (empties u.weights)) g.placed ∙ place_add hs 0 g.handfuls (empties u.weights);
+        within = l;
+        bound = omega (arith, add-mul n 1 24000000, m.weighs, weight_le LIMIT t.weights m.choice o.light, opened_le m.choice, (law.sound k t m.choice m.best.allowed).whole, o.few, g.bound);
+      }
+
+  kept :
+      {hs : List ℕ} {first : K} {s : Stand} {k : K} {t : Stand} {j n v : ℕ} (wanted : ℕ) → InOrder s → n ≤ wanted →
+      Course allows after hs first s k t j n v → Kept age least top hs wanted first s t j n v
+  kept {first = first} {s} {k} {t} wanted o l h =
+      let row = season_bags h in
+      let weigh = bags_weigh_enough law first s k t _ _ _ row in
+      record {
+        young = λ y. no_pan_waits_too_long law first s k t _ _ _ o.paired y row;
+        enough = weigh.0;
+        within = weigh.1;
+        nothing_lost = rows_lose_nothing law first s k t _ _ _ row;
+        still = λ e. none_played h (omega (arith, e));
+      }
+
+  -- what was played keeps what is promised
+  pub plays_by :
+      {hs : List ℕ} {first : K} {s : Stand} {k : K} {t : Stand} {p n v : ℕ} (wanted : ℕ) (early : Bool) → Small hs → InOrder s →
+      ready first (length s.weights) wanted → n ≤ wanted → Playing allows after hs first s k t p n v →
+      MatchBool early ((n < wanted) × NoneOf (allows k t)) (n ≡ wanted) →
+      Plays allows age least top after ready hs wanted first s k t n v early
+  plays_by {first = first} {s} wanted early small o y l g ends =
+      record {
+        handfuls = g.handfuls;
+        course = g.course;
+        ends = ends;
+        kept = kept wanted o l g.course;
+        ordered = λ j u i n v h. course_ordered small (law.old first (length s.weights) wanted y) o h;
+        goes_on = λ j u i n v h less. course_ready wanted y h less;
+      }
+
+  -- it ends early where nothing is allowed any more, and then nothing changed
+  pub plays_ended :
+      {hs : List ℕ} {first : K} {s : Stand} {k j : K} {t u : Stand} {p n v : ℕ} (wanted : ℕ) → Small hs → InOrder s → ready first (length s.weights) wanted →
+      n < wanted → Playing allows after hs first s k t p n v → NoneOf (allows k t) → j ≡ k → u ≡ t →
+      Plays allows age least top after ready hs wanted first s j u n v true
+  plays_ended wanted small o y l g none e f = rw (e, f) (plays_by wanted true small o y (omega arith) g (l, none))
+
+-- by a rule nothing of the kind changes
+pub same_kind :
+    {hs : List ℕ} {first : Rule} {s : Stand} {k : Rule} {t : Stand} {j n v : ℕ} → Course by_rule same_rule hs first s k t j n v → k ≡ first
+same_kind begins = refl
+same_kind (goes h m) = same_kind h

@@ -1,66 +1,76 @@
--- A season: bag after bag, each the best of its ring as the entry makes it, and handfuls of a list in between. Assumes
--- nothing: these are definitions.
---   Season           so many bags of so much weight have been made, and so many handfuls of the list have fallen
---   Plays            the season that is answered: its bags, their weight, what was given away, and whether it ended early
---   season_refusal   what a bag would be turned away for; then 3 for a handful above 1,000,000, its place behind the
---                    weights and the ages; then 4 at its line for more than 1,000,000 bags
+-- A season of any kind of bag: bag after bag, each the best of its stand, and handfuls of a list in between. Assumes nothing:
+-- these are definitions.
+--   refilled         a stand after the list's handfuls, from a place of the list on, fell into its empty pans
+--   Course           so many bags of so much weight have been made, and so many handfuls of the list have fallen
+--   Kept             what is promised of every course
+--   Plays            a season was played: its course, how it ended, and what is promised of it
+--   PlayedBy         the same by a rule, and what was given away: what the bags weigh above so many targets
+--   season_refusal   what a bag would be turned away for; then 3 for a handful above 1,000,000, its place behind the weights
+--                    and the ages; then 4 for more bags than a season has
 --   Seasoned         what each answer says
---   Kept             what is promised of every season
-use Rattle.std.specs.Prelude.{◌≡◌, ℕ, suc, ◌+◌, ◌*◌, ◌<◌, ◌≤◌, cond, List, length, Some, None, Ok, Err, MatchBool, Option, Result, nat_le}
+--   Untouched        once begun no bag of a season is turned away
+use Rattle.std.specs.Prelude.{◌≡◌, ℕ, suc, ◌+◌, ◌-◌, ◌*◌, ◌<◌, ◌≤◌, Bool, ◌⊎◌, List, length, Some, None, Ok, Err, MatchBool, Option, Result, if◌then◌else◌, nat_le}
 use Rattle.std.specs.Option.{option_map}
-use Rattle.choices.specs.Choice.{fits}
-use Rattle.choices.specs.declared.rule.Rule.{Rule}
-use Rattle.order.specs.Order.{NoneOf}
-use Rattle.packing.specs.Entry.{Made, Same}
-use Rattle.choices.specs.Ruled.{rule_in}
-use Rattle.packing.specs.Refusals.{or_else, first_above, first_refusal}
+use Rattle.answers.specs.Refusals.{or_else}
+use Rattle.answers.specs.declared.played.Played.{Played}
 use Rattle.answers.specs.declared.refusal.Refusal.{Refusal}
 use Rattle.answers.specs.declared.refusal.Refusal.TheVariants.{Number, Line}
-use Rattle.laws.specs.Laws.{Young}
-use Rattle.laws.specs.Rows.{Stand, total}
+use Rattle.choices.specs.Ruled.{rule_in}
+use Rattle.choices.specs.Stand.{Stand, stand, InOrder, May, by_rule, total, Young}
+use Rattle.choices.specs.declared.limits.TheConstants.{LIMIT}
+use Rattle.choices.specs.declared.rule.Rule.{Rule}
+use Rattle.engines.specs.Plain.{age_of, least_of, top_of, same_rule, rule_ready}
+use Rattle.order.specs.Order.{NoneOf}
+use Rattle.packing.specs.Entry.{Made}
+use Rattle.packing.specs.Refusals.{first_above, first_refusal}
 use Rattle.seasons.specs.Handfuls.{hands, place, empties, filled}
-use Rattle.answers.specs.declared.played.Played.{Played}
+use Rattle.seasons.specs.declared.limits.TheConstants.{LONGEST}
 
-abbrev pub stand : (weights ages : List ℕ) → Stand
-stand ws as' = record { weights = ws; ages = as' }
+abbrev pub refilled : (handfuls : List ℕ) → (from : ℕ) → Stand → Stand
+refilled hs i u = stand (filled u.weights (hands hs i (empties u.weights))) u.ages
 
-pub data Season (r : Rule) (hs : List ℕ) (from : Stand) : (to : Stand) (handfuls bags weight : ℕ) → Type 0 where
-  start : Season r hs from from 0 0 0
+pub data Course {K : Type 0} (allows : K → May) (after : K → (weight : ℕ) → K) (hs : List ℕ) (first : K) (from : Stand) :
+    (k : K) (to : Stand) (handfuls bags weight : ℕ) → Type 0 where
+  start : Course allows after hs first from first from 0 0 0
   next :
-      {t : Stand} {k n v p w : ℕ} {ws₁ as₁ : List ℕ} →
-      Season r hs from t k n v → Made r t.weights t.ages p w ws₁ as₁ →
-      Season r hs from (stand (filled ws₁ (hands hs (place hs 0 k) (empties ws₁))) as₁) (k + empties ws₁) (suc n) (v + w)
+      {k : K} {t u : Stand} {j n v p w : ℕ} →
+      Course allows after hs first from k t j n v → Made (allows k) t p w u →
+      Course allows after hs first from (after k w) (refilled hs (place hs 0 j) u) (j + empties u.weights) (suc n) (v + w)
 
-pub record Plays (r : Rule) (hs : List ℕ) (wanted : ℕ) (ws as' ws₁ as₁ : List ℕ) (p : Played) : Type 0 where
-  pub handfuls : ℕ
-  pub plays : Season r hs (stand ws as') (stand ws₁ as₁) handfuls p.bags p.weight
-  pub given : p.given_away + p.bags * r.target ≡ p.weight
-  pub ends : MatchBool p.ended_early ((p.bags < wanted) × NoneOf (fits r ws₁ as₁)) (p.bags ≡ wanted)
-
-abbrev pub season_refusal : (rule weights ages handfuls : List ℕ) → (bags line : ℕ) → Option Refusal
-season_refusal rs ws as' hs n l =
-    or_else (first_refusal rs ws as') (or_else (option_map Number (first_above 1000000 (2 * length ws) hs)) (cond (nat_le n 1000000) None (Some (Line l))))
-
-abbrev pub Seasoned : Option Refusal → Rule → (hs : List ℕ) (wanted : ℕ) (ws as' ws₁ as₁ : List ℕ) → Result Played Refusal → Type 0
-Seasoned None r hs n ws as' ws₁ as₁ (Ok p) = Plays r hs n ws as' ws₁ as₁ p
-Seasoned None r hs n ws as' ws₁ as₁ (Err f) = ⊥
-Seasoned (Some g) r hs n ws as' ws₁ as₁ (Ok p) = ⊥
-Seasoned (Some g) r hs n ws as' ws₁ as₁ (Err f) = (f ≡ g) × Same ws as' ws₁ as₁
-
-pub record Kept (rs hs : List ℕ) (wanted : ℕ) (ws as' ws₁ as₁ : List ℕ) (p : Played) : Type 0 where
-  -- no pan's age comes above the rule's
-  pub young : Young (rule_in rs).age as' → Young (rule_in rs).age as₁
+pub record Kept {K : Type 0} (age least top : K → ℕ) (hs : List ℕ) (wanted : ℕ) (first : K) (s t : Stand) (handfuls bags weight : ℕ) : Type 0 where
+  -- no pan's age comes above the kind's: after a bag whatever the ages were, and where they were not above it at the start
+  pub young : (Young (age first) s.ages) ⊎ (1 ≤ bags) → Young (age first) t.ages
   -- the bags weigh enough, and not too much
-  pub enough : p.bags * (rule_in rs).target ≤ p.weight
-  pub within : p.weight ≤ p.bags * ((rule_in rs).target + (rule_in rs).above)
-  -- what was there and what fell in is what went into bags and what is left
-  pub handfuls : ℕ
-  pub nothing_lost : total ws + total (hands hs 0 handfuls) ≡ p.weight + total ws₁
-  -- once begun no bag is turned away
-  pub never : (t : Stand) (k n v : ℕ) → Season (rule_in rs) hs (stand ws as') t k n v → first_refusal rs t.weights t.ages ≡ None
+  pub enough : bags * least first ≤ weight
+  pub within : weight ≤ bags * top first
+  -- what was there and the handfuls that fell are what went into bags and what is left
+  pub nothing_lost : total s.weights + total (hands hs 0 handfuls) ≡ weight + total t.weights
   -- no bags change nothing
-  pub still : wanted ≡ 0 → Same ws as' ws₁ as₁
+  pub still : wanted ≡ 0 → t ≡ s
 
-abbrev pub Keeps : (rs hs : List ℕ) (wanted : ℕ) (ws as' ws₁ as₁ : List ℕ) → Result Played Refusal → Type 0
-Keeps rs hs n ws as' ws₁ as₁ (Ok p) = Kept rs hs n ws as' ws₁ as₁ p
-Keeps rs hs n ws as' ws₁ as₁ (Err f) = Unit {0}
+pub record Plays {K : Type 0} (allows : K → May) (age least top : K → ℕ) (after : K → (weight : ℕ) → K) (ready : K → (pans bags : ℕ) → Type 0)
+    (hs : List ℕ) (wanted : ℕ) (first : K) (s : Stand) (k : K) (t : Stand) (bags weight : ℕ) (early : Bool) : Type 0 where
+  pub handfuls : ℕ
+  pub course : Course allows after hs first s k t handfuls bags weight
+  pub ends : MatchBool early ((bags < wanted) × NoneOf (allows k t)) (bags ≡ wanted)
+  pub kept : Kept age least top hs wanted first s t handfuls bags weight
+  -- at every bag of the course the pans are in order, and the kind is ready for the bags that are left
+  pub ordered : (j : K) (u : Stand) (i n v : ℕ) → Course allows after hs first s j u i n v → InOrder u
+  pub goes_on : (j : K) (u : Stand) (i n v : ℕ) → Course allows after hs first s j u i n v → n ≤ wanted → ready j (length u.weights) (wanted - n)
+
+pub record PlayedBy (r : Rule) (hs : List ℕ) (wanted : ℕ) (s t : Stand) (p : Played) : Type 0 where
+  pub plays : Plays by_rule age_of least_of top_of same_rule rule_ready hs wanted r s r t p.bags p.weight p.ended_early
+  pub given : p.given_away + p.bags * r.target ≡ p.weight
+
+abbrev pub season_refusal : (long : ℕ) → (rule : List ℕ) → Stand → (handfuls : List ℕ) → (bags : ℕ) → Option Refusal
+season_refusal long rs s hs n =
+    or_else (first_refusal long rs s) (or_else (option_map Number (first_above LIMIT (2 * length s.weights) hs)) (if nat_le n LONGEST then None else (Some Line)))
+
+abbrev pub Seasoned : Option Refusal → Rule → (hs : List ℕ) (wanted : ℕ) → Stand → Result Played Refusal → Stand → Type 0
+Seasoned None r hs n s (Ok p) t = PlayedBy r hs n s t p
+Seasoned None r hs n s (Err f) t = ⊥
+Seasoned (Some g) r hs n s (Ok p) t = ⊥
+Seasoned (Some g) r hs n s (Err f) t = (f ≡ g) × (t ≡ s)
+
+abbrev pub Untouched : (rule handfuls : List ℕ) → Stand → Type 0
+Untouched rs hs s = (k : Rule) (t : Stand) (j n v : ℕ) → Course by_rule same_rule hs (rule_in rs) s k t j n v → first_refusal 4 rs t ≡ None

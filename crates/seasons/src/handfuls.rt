@@ -1,4 +1,4 @@
-// Handfuls that fall from a list into the empty pans.
+//! Handfuls that fall from a list into the empty pans.
 ghost use Rattle.std.specs.Prelude.{◌≡◌, ◌<◌, length};
 ghost use Rattle.seasons.specs.Handfuls.{empties, filled, hands, place};
 

@@ -1,6 +1,6 @@
 -- What is left of the proof that a bag is made.
 use Rattle.choices.specs.Stand.{stand}
-use Rattle.packing.proofs.Making.{Sound, made_by, kept_by}
+use Rattle.packing.proofs.Making.{made_by, kept_by}
 use Rattle.packing.proofs.one_bag.pack.Goals as goal
 
 pub returns-clause-bag : goal.returns-clause-bag
