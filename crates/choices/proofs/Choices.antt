@@ -11,7 +11,7 @@ pub record Fitting (r : Rule) (ws as' : List ℕ) (cs : Choice) : Type 0 where
   pub within : weight_of ws cs ≤ r.target + r.above
   pub few : opened cs ≤ r.pans
   pub filled : none_empty ws cs ≡ true
-  pub waited : keeps_old r.age as' cs ≡ true
+  pub old_opened : keeps_old r.age as' cs ≡ true
 
 pub fitting : (r : Rule) (ws as' : List ℕ) (cs : Choice) → fits r ws as' cs ≡ true → Fitting r ws as' cs
 unfolding fits
@@ -27,13 +27,13 @@ fitting r ws as' cs h =
       within = leb-true _ _ d.0;
       few = leb-true _ _ e.0;
       filled = f.0;
-      waited = f.1;
+      old_opened = f.1;
     }
 
 pub fits_from : (r : Rule) (ws as' : List ℕ) (cs : Choice) → Fitting r ws as' cs → fits r ws as' cs ≡ true
 unfolding fits
 fits_from r ws as' cs h =
-    and_from _ _ (eq-eqb _ _ h.whole) (and_from _ _ (le-leb _ _ h.enough) (and_from _ _ (le-leb _ _ h.within) (and_from _ _ (le-leb _ _ h.few) (and_from _ _ h.filled h.waited))))
+    and_from _ _ (eq-eqb _ _ h.whole) (and_from _ _ (le-leb _ _ h.enough) (and_from _ _ (le-leb _ _ h.within) (and_from _ _ (le-leb _ _ h.few) (and_from _ _ h.filled h.old_opened))))
 
 pub opened_le : (cs : Choice) → opened cs ≤ length cs
 opened_le [] = omega arith

@@ -9,4 +9,4 @@ mod tally;
 pub use choice::{count, fits, number, weight};
 pub use ring::Ring;
 pub use rule::Rule;
-pub use tally::{Tally, look, waiting};
+pub use tally::{Tally, look, old_count};

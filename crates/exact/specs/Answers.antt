@@ -6,12 +6,12 @@ use Rattle.choices.specs.Choice.{Choice, weight_of, opened, fits}
 use Rattle.choices.specs.declared.rule.Rule.{Rule}
 use Rattle.order.specs.Order.{BestBag}
 use Rattle.order.specs.declared.bag.Bag.{Bag}
-use Rattle.exact.specs.Pans.{due_of}
+use Rattle.exact.specs.Pans.{only_old}
 
 pub record Easy (r : Rule) (ws as' : List ℕ) (cs : Choice) : Type 0 where
   pub fitting : fits r ws as' cs ≡ true
   pub just : weight_of ws cs ≡ r.target
-  pub few : opened cs ≤ opened (due_of r.age as') + 4
+  pub few : opened cs ≤ opened (only_old r.age as') + 4
 
 abbrev pub room_bytes : ℕ → ℕ
 room_bytes target = 2 * (target + 2)

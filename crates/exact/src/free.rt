@@ -8,14 +8,10 @@ use choices::Ring;
 const BARRED: u32 = 2_000_000;
 
 // A pan that has to be opened, or is empty, is barred.
-fn loose_weight(may_wait: bool, weight: u32) -> u32
-    ensures { result ≡ loose may_wait weight }
+fn loose_weight(young: bool, weight: u32) -> u32
+    ensures { result ≡ loose young weight }
 {
-    if may_wait && weight >= 1 {
-        weight
-    } else {
-        BARRED
-    }
+    if young && weight >= 1 { weight } else { BARRED }
 }
 
 // What each pan weighs that may be opened.

@@ -2,11 +2,11 @@
 #![tactic(auto)]
 
 mod answer;
-mod due;
 mod few;
 mod free;
+mod old;
 mod picks;
 mod tables;
 
 pub use answer::best;
-pub use due::{Due, due_pans};
+pub use old::{OldPans, old_pans};

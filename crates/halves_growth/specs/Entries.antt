@@ -38,6 +38,6 @@ pub record Opening (to : ℕ) (v : Way) (gain : ℕ) (es : List ℕ) (n m : ℕ)
 pub record Grown (to : ℕ) (v : Way) (gain : ℕ) (old es : List ℕ) (n n' : ℕ) : Type 0 where
   pub few : n' ≤ n + n
   pub rises : Rises es n'
-  pub keeps : v.stays ≡ true → (p : ℕ) → p < n → Holds es n' (slice_index old p)
+  pub keeps : v.young ≡ true → (p : ℕ) → p < n → Holds es n' (slice_index old p)
   pub adds : v.opens ≡ true → (p : ℕ) → p < n → slice_index old p + gain < to → Holds es n' (slice_index old p + gain)
-  pub only : (q : ℕ) → q < n' → ((v.stays ≡ true) × Holds old n (slice_index es q)) ⊎ ((v.opens ≡ true) × ((p : ℕ) × (p < n) × (slice_index old p + gain ≡ slice_index es q)))
+  pub only : (q : ℕ) → q < n' → ((v.young ≡ true) × Holds old n (slice_index es q)) ⊎ ((v.opens ≡ true) × ((p : ℕ) × (p < n) × (slice_index old p + gain ≡ slice_index es q)))

@@ -49,7 +49,7 @@ pub fn grow(es: &mut [u64], n: usize, pan: Pan, to: u64) -> usize
     ensures rest { (q : ℕ) → n + n ≤ q → slice_index es.new q ≡ slice_index es.old q }
 {
     let added = openable(&es[..n], pan, to);
-    if pan.way.stays {
+    if pan.way.young {
         merge(
             es,
             Merge {

@@ -68,7 +68,7 @@ fn grow_both(
     ensures front { Grown to first.way first.gain front.old front.new sizes.front result.front }
     ensures back { Grown to second.way second.gain back.old back.new sizes.back result.back }
 {
-    if first.way.stays && second.way.stays {
+    if first.way.young && second.way.young {
         let added = openable(&front[..sizes.front], first, to);
         let raised = openable(&back[..sizes.back], second, to);
         let one = Merge {

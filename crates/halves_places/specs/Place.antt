@@ -10,7 +10,7 @@ abbrev pub by_ways : List Way → Choice → Bool
 by_ways [] [] = true
 by_ways [] (c ∷ cs) = false
 by_ways (v ∷ vs) [] = false
-by_ways (v ∷ vs) (c ∷ cs) = cond c v.opens v.stays && by_ways vs cs
+by_ways (v ∷ vs) (c ∷ cs) = cond c v.opens v.young && by_ways vs cs
 
 abbrev pub place : ℕ → List ℕ → Choice → ℕ
 place b [] cs = 0

@@ -11,7 +11,7 @@ use Rattle.halves_places.specs.Place.{place}
 use Rattle.halves_places.specs.declared.way.Way.{Way}
 
 abbrev pub way : ℕ → ℕ → ℕ → Way
-way old w a = record { opens = nat_le 1 w; stays = nat_lt a old }
+way old w a = record { opens = nat_le 1 w; young = nat_lt a old }
 
 abbrev pub ways : ℕ → List ℕ → List ℕ → List Way
 ways old [] as' = []
@@ -19,7 +19,7 @@ ways old (w ∷ ws) [] = []
 ways old (w ∷ ws) (a ∷ as') = way old w a ∷ ways old ws as'
 
 abbrev pub neither : Way
-neither = record { opens = false; stays = false }
+neither = record { opens = false; young = false }
 
 abbrev pub Says : List ℕ → ℕ → Bag → Type 0
 Says ws x r = (cs : Choice) → length cs ≡ length ws → place 0 ws cs ≡ x → (r.pans ≡ number_of cs) × (r.weight ≡ weight_of ws cs)

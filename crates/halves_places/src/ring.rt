@@ -15,12 +15,12 @@ fn way(ring: Ring, pan: usize) -> Way
     if pan < ring.weights.len() {
         Way {
             opens: ring.weights[pan] >= 1,
-            stays: ring.ages[pan] < ring.rule.age,
+            young: ring.ages[pan] < ring.rule.age,
         }
     } else {
         Way {
             opens: false,
-            stays: false,
+            young: false,
         }
     }
 }

@@ -4,5 +4,5 @@
 #[derive(Clone, Copy)]
 pub struct Way {
     pub opens: bool,
-    pub stays: bool,
+    pub young: bool,
 }

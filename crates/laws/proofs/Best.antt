@@ -62,7 +62,7 @@ looser_is_lighter r q ws as' cs ds target above pans age b d =
     let long = f.whole ∙ sym (fitting q ws as' ds d.allowed).whole in
     let fits-too =
     fits_from q ws as' cs
-    (record { whole = f.whole; enough = omega (arith, f.enough); within = omega (arith, f.within); few = omega (arith, f.few); filled = f.filled; waited = waits_on r.age q.age as' cs age f.waited }) in
+    (record { whole = f.whole; enough = omega (arith, f.enough); within = omega (arith, f.within); few = omega (arith, f.few); filled = f.filled; old_opened = waits_on r.age q.age as' cs age f.old_opened }) in
     light (sym (better_is ws cs ds long) ∙ d.unbeaten cs fits-too)
   where
     light : ranked ws cs ds ≡ false → weight_of ws ds ≤ weight_of ws cs

@@ -31,7 +31,7 @@ aged_young old (a ∷ as') (false ∷ cs) e h (suc i) = aged_young old as' cs (o
 pub made_young : {r : Rule} {ws as' ws₁ as₁ : List ℕ} {p w : ℕ} → length as' ≡ length ws → Made r ws as' p w ws₁ as₁ → Young r.age as₁
 made_young {r} {ws} {as'} e m =
     let f = fitting r ws as' m.choice m.best.allowed in
-    rw m.ages (aged_young r.age as' m.choice (f.whole ∙ sym e) f.waited)
+    rw m.ages (aged_young r.age as' m.choice (f.whole ∙ sym e) f.old_opened)
 
 pub length_falls : {ws vs : List ℕ} {f : ℕ} → Falls ws vs f → length vs ≡ length ws
 length_falls done = refl

@@ -5,7 +5,7 @@ use Rattle.std.proofs.lemmas.Nat.{pow_pos, div-add-mod'}
 use Rattle.std.proofs.lemmas.Bool.Decides.{nat_tests}
 use Rattle.choices.specs.Choice.{weight_of, opened, fits}
 use Rattle.choices.specs.Numbered.{choice_of}
-use Rattle.choices.specs.Tallied.{empty_ones, old_ones, waiting_of}
+use Rattle.choices.specs.Tallied.{empty_ones, old_ones, old_count_of}
 use Rattle.choices.specs.declared.rule.Rule.{Rule}
 use Rattle.choices.proofs.Blocks.{opens_weight, last_opens, sum_apart}
 use Rattle.choices.proofs.Choices.{fitting}
@@ -67,11 +67,11 @@ module _ (r : Rule) (ws as' : List ℕ) (head t most : ℕ) (block : head % 2 ^ 
   light h j a b f = absurd (omega (arith, sum_last ws head t j block a b ws (length ws), (fitting r ws as' _ f).enough))
 
   pub shut :
-      length as' ≡ length ws → weight_of (old_ones r.age as') (choice_of (length ws) (head + 2 ^ t - 1)) < waiting_of r.age as' →
+      length as' ≡ length ws → weight_of (old_ones r.age as') (choice_of (length ws) (head + 2 ^ t - 1)) < old_count_of r.age as' →
       Useless r ws as' head t most
   shut e h j a b f =
       let cs = choice_of (length ws) j in
-      let all = eqb-true _ _ (sym (keeps_old_is r.age as' cs (length_choice_of (length ws) j ∙ sym e)) ∙ (fitting r ws as' cs f).waited) in
+      let all = eqb-true _ _ (sym (keeps_old_is r.age as' cs (length_choice_of (length ws) j ∙ sym e)) ∙ (fitting r ws as' cs f).old_opened) in
       absurd (omega (arith, sum_last ws head t j block a b (old_ones r.age as') (length ws), all))
 
 module _ (r : Rule) (ws as' : List ℕ) (most j : ℕ) where

@@ -28,7 +28,7 @@ impl<'a> Criterion for Tallies<'a> {
     }
 
     fn allows(&self, k: u64) -> bool {
-        self.tally(k).fits(self.ring.rule, self.waiting)
+        self.tally(k).fits(self.ring.rule, self.old_count)
     }
 
     fn beats(&self, a: u64, b: u64) -> bool {
@@ -75,7 +75,7 @@ fn useless(tallies: &Tallies, head: u64, free: u32, most: u32) -> bool
         return true;
     }
     let whole = tallies.tally(head + (1u64 << free) - 1);
-    whole.weight < rule.target || whole.old < tallies.waiting
+    whole.weight < rule.target || whole.old < tallies.old_count
 }
 
 // The best choice of the ring's pans, or none where no choice whatever fits.

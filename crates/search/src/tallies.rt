@@ -2,19 +2,19 @@
 ghost use Rattle.std.specs.Prelude.{◌≡◌, ℕ, ◌^◌, ◌<◌, length, slice_index_or};
 ghost use Rattle.choices.specs.Choice.{opened, weight_of};
 ghost use Rattle.choices.specs.Numbered.{choice_of};
-ghost use Rattle.choices.specs.Tallied.{Tallied, empty_ones, old_ones, waiting_of};
+ghost use Rattle.choices.specs.Tallied.{Tallied, empty_ones, old_ones, old_count_of};
 ghost use Rattle.search.specs.Groups.{nothing, part as part_at};
 
-use choices::{Ring, Tally, look, waiting};
+use choices::{Ring, Tally, look, old_count};
 
 // The pans stand in four groups of six, the last pans first, and there are 64 choices of each group.
 #[derive(Clone, Copy)]
 pub struct Tallies<'a> {
     pub ring: Ring<'a>,
     // How many pans have waited too long.
-    pub waiting: u32,
+    pub old_count: u32,
     groups: [Tally; 256],
-    ghost waits: { waiting ≡ waiting_of ring.rule.age ring.ages.now },
+    ghost old_counted: { old_count ≡ old_count_of ring.rule.age ring.ages.now },
     ghost weighs: { (i : ℕ) → i < 256 → (slice_index_or groups i nothing).weight ≡ weight_of ring.weights.now (choice_of (length ring.weights.now) (part_at i)) },
     ghost counts: { (i : ℕ) → i < 256 → (slice_index_or groups i nothing).pans ≡ opened (choice_of (length ring.weights.now) (part_at i)) },
     ghost empties: { (i : ℕ) → i < 256 → (slice_index_or groups i nothing).empty ≡ weight_of (empty_ones ring.weights.now) (choice_of (length ring.weights.now) (part_at i)) },
@@ -40,7 +40,7 @@ impl<'a> Tallies<'a> {
         }
         Tallies {
             ring,
-            waiting: waiting(ring),
+            old_count: old_count(ring),
             groups,
         }
     }

@@ -18,7 +18,7 @@ use Rattle.std.specs.Prelude.{◌≡◌, ℕ, ◌+◌, ◌-◌, ◌*◌, ◌<◌
 use Rattle.choices.specs.Choice.{Choice, weight_of, opened, none_empty, keeps_old}
 use Rattle.choices.specs.Numbered.{number_of}
 use Rattle.order.specs.Order.{first_more}
-use Rattle.table.specs.Pans.{due_weight, due_pans, free_at, free_before, pairs_of}
+use Rattle.table.specs.Pans.{old_weight_of, old_count_of, free_at, free_before, pairs_of}
 
 abbrev pub row_at : (bytes : List ℕ) (start : ℕ) → ℕ → ℕ
 row_at bytes start x = slice_index bytes (start + x)
@@ -39,12 +39,12 @@ second_opens o whole behind u v x = cond o (nat_lt (back behind (u + v) x) (back
 pub record Makes (old : ℕ) (ws as' : List ℕ) (x : ℕ) (cs : Choice) : Type 0 where
   pub whole : length cs ≡ length ws
   pub filled : none_empty ws cs ≡ true
-  pub waited : keeps_old old as' cs ≡ true
-  pub weighs : weight_of ws cs ≡ due_weight old ws as' + x
+  pub old_opened : keeps_old old as' cs ≡ true
+  pub weighs : weight_of ws cs ≡ old_weight_of old ws as' + x
 
 pub record Least (old : ℕ) (ws as' : List ℕ) (x k : ℕ) : Type 0 where
-  pub low : (cs : Choice) → Makes old ws as' x cs → due_pans old as' + k ≤ opened cs
-  pub some : k < 255 → (cs : Choice) × Makes old ws as' x cs × (opened cs ≡ due_pans old as' + k)
+  pub low : (cs : Choice) → Makes old ws as' x cs → old_count_of old as' + k ≤ opened cs
+  pub some : k < 255 → (cs : Choice) × Makes old ws as' x cs × (opened cs ≡ old_count_of old as' + k)
 
 pub record Row (old : ℕ) (ws as' : List ℕ) (from most : ℕ) (row : ℕ → ℕ) : Type 0 where
   pub least : (x : ℕ) → from ≤ x → x ≤ most → Least old ws as' x (row x)

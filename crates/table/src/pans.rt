@@ -1,7 +1,7 @@
 // What a pan is to the rows.
 ghost use Rattle.choices.specs.Numbered.{number_of};
-ghost use Rattle.exact.specs.Pans.{due_of};
-ghost use Rattle.table.specs.Pans.{due_pans, free_at, pairs_of};
+ghost use Rattle.exact.specs.Pans.{only_old};
+ghost use Rattle.table.specs.Pans.{old_count_of, free_at, pairs_of};
 ghost use Rattle.std.specs.Prelude.{◌≡◌, ℕ, ◌<◌, length, slice_index};
 
 use choices::Ring;
@@ -14,14 +14,14 @@ pub fn pairs(ring: Ring) -> usize
 }
 
 // The pans that have to be opened, as the number that is answered; seldom is there one.
-pub fn due_number(ring: Ring, held: u32) -> u32
-    requires { held ≡ due_pans ring.rule.age ring.ages.now }
-    ensures { result ≡ number_of (due_of ring.entry.rule.age ring.entry.ages.now) }
+pub fn old_number(ring: Ring, old_count: u32) -> u32
+    requires { old_count ≡ old_count_of ring.rule.age ring.ages.now }
+    ensures { result ≡ number_of (only_old ring.entry.rule.age ring.entry.ages.now) }
 {
-    if held == 0 {
+    if old_count == 0 {
         0
     } else {
-        exact::due_pans(ring).number
+        exact::old_pans(ring).number
     }
 }
 

@@ -2,8 +2,8 @@
 ghost use Rattle.std.specs.Prelude.{◌≡◌, ℕ, ◌+◌, ◌-◌, ◌*◌, ◌^◌, ◌<◌, ◌≤◌, true, cond, length, slice_index};
 ghost use Rattle.choices.specs.Choice.{bit};
 ghost use Rattle.choices.specs.Numbered.{number_of};
-ghost use Rattle.exact.specs.Pans.{due_of};
-ghost use Rattle.table.specs.Pans.{free_at, none_due_empty, pairs_of};
+ghost use Rattle.exact.specs.Pans.{only_old};
+ghost use Rattle.table.specs.Pans.{free_at, none_old_empty, pairs_of};
 ghost use Rattle.table.specs.Rows.{Lightest, Reaches, Read, Rows, first_opens, row_at, second_opens};
 
 use crate::pans::pairs;
@@ -32,7 +32,7 @@ pub struct Table<'a, 'b> {
     pub span: usize,
     pub shape: Shape,
     pub bytes: &'b [u8],
-    ghost ready: { none_due_empty ring.rule.age ring.weights.now ring.ages.now ≡ true },
+    ghost old_filled: { none_old_empty ring.rule.age ring.weights.now ring.ages.now ≡ true },
     ghost whole: { span < 64 * shape.blocks },
     ghost enough: { (shape.pad + 64 * shape.blocks) * (pairs_of (length ring.weights.now) + 1) ≤ length bytes.now },
 }
@@ -77,9 +77,9 @@ impl Table<'_, '_> {
     }
 
     // The pans of the choice that makes a weight, as the number that is answered: those that have to be opened, and what is read.
-    pub fn read(self, free: &[u32; 24], due: u32, weight: usize) -> u32
+    pub fn read(self, free: &[u32; 24], old_number: u32, weight: usize) -> u32
         requires free { (i : ℕ) → i < 24 → slice_index free.now i ≡ free_at self.ring.rule.age self.ring.weights.now self.ring.ages.now i }
-        requires due { due ≡ number_of (due_of self.ring.rule.age self.ring.ages.now) }
+        requires old_number { old_number ≡ number_of (only_old self.ring.rule.age self.ring.ages.now) }
         requires rows { Rows self.ring.rule.age self.ring.weights.now self.ring.ages.now weight (64 * self.shape.blocks - 1) self.shape.pad (self.shape.pad + 64 * self.shape.blocks) 0 self.bytes.now }
         requires reach { Reaches self.ring.rule.age self.ring.weights.now self.ring.ages.now self.shape.pad (64 * self.shape.blocks) }
         requires within { weight ≤ self.span }
@@ -88,7 +88,7 @@ impl Table<'_, '_> {
     {
         let mut row = self.top();
         let mut left = weight;
-        let mut pans = due;
+        let mut pans = old_number;
         for pair in 0..pairs(self.ring) {
             let pan = 2 * pair;
             let first = free[pan] as usize;

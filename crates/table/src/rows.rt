@@ -1,6 +1,6 @@
 // The rows of the table: for each weight the least number of free pans that weigh so much.
 ghost use Rattle.std.specs.Prelude.{◌≡◌, ℕ, ◌+◌, ◌-◌, ◌*◌, ◌<◌, ◌≤◌, true, ◌≢◌, length, slice_index};
-ghost use Rattle.table.specs.Pans.{free_at, none_due_empty, pairs_of};
+ghost use Rattle.table.specs.Pans.{free_at, none_old_empty, pairs_of};
 ghost use Rattle.table.specs.Rows.{Reaches, Rows, joined, row_at};
 ghost use Rattle.table.specs.Surveyed.{Surveyed};
 
@@ -56,7 +56,7 @@ fn add_pair(
 pub fn fill(ring: Ring, seen: Survey, free: &[u32; 24], from: usize, shape: Shape, room: &mut [u8])
     requires free { (i : ℕ) → i < 24 → slice_index free.now i ≡ free_at ring.rule.age ring.weights.now ring.ages.now i }
     requires seen { Surveyed ring.rule.age ring.weights.now ring.ages.now seen }
-    requires ready { none_due_empty ring.rule.age ring.weights.now ring.ages.now ≡ true }
+    requires old_filled { none_old_empty ring.rule.age ring.weights.now ring.ages.now ≡ true }
     requires reach { Reaches ring.rule.age ring.weights.now ring.ages.now shape.pad (64 * shape.blocks) }
     requires enough { (shape.pad + 64 * shape.blocks) * (pairs_of (length ring.weights.now) + 1) ≤ length room.old }
     ensures { Rows ring.entry.rule.age ring.entry.weights.now ring.entry.ages.now from (64 * shape.blocks - 1) shape.pad (shape.pad + 64 * shape.blocks) 0 room.new }

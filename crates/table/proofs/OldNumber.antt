@@ -8,47 +8,47 @@ use Rattle.std.proofs.Math.Pow.{pow_mono}
 use Rattle.choices.specs.Choice.{bit}
 use Rattle.choices.specs.Numbered.{number_of}
 use Rattle.choices.proofs.Numbers.{number_lt}
-use Rattle.exact.specs.Pans.{due_of}
-use Rattle.table.specs.Pans.{due_pans}
+use Rattle.exact.specs.Pans.{only_old}
+use Rattle.table.specs.Pans.{old_count_of}
 use Rattle.table.proofs.Filling.{drop_ages, no_ages}
 
 -- whether there is such a pan, and it has to be opened
-abbrev pub due_at : ℕ → (weights ages : List ℕ) → (pan : ℕ) → Bool
-due_at old ws as' i = ltb i (length ws) && leb old (get_or as' i 0)
+abbrev pub old_at : ℕ → (weights ages : List ℕ) → (pan : ℕ) → Bool
+old_at old ws as' i = ltb i (length ws) && leb old (get_or as' i 0)
 
 -- where none is counted none is numbered
-pub none_due : (old : ℕ) (as' : List ℕ) → due_pans old as' ≡ 0 → number_of (due_of old as') ≡ 0
-none_due old [] e = refl
-none_due old (a ∷ as') e = at (ltb a old) e (λ rest. none_due old as' rest)
+pub none_old : (old : ℕ) (as' : List ℕ) → old_count_of old as' ≡ 0 → number_of (only_old old as') ≡ 0
+none_old old [] e = refl
+none_old old (a ∷ as') e = at (ltb a old) e (λ rest. none_old old as' rest)
   where
-    at : (b : Bool) → cond b 0 1 + due_pans old as' ≡ 0 → (due_pans old as' ≡ 0 → number_of (due_of old as') ≡ 0) → bit (not b) + 2 * number_of (due_of old as') ≡ 0
+    at : (b : Bool) → cond b 0 1 + old_count_of old as' ≡ 0 → (old_count_of old as' ≡ 0 → number_of (only_old old as') ≡ 0) → bit (not b) + 2 * number_of (only_old old as') ≡ 0
     at true e later = omega (arith, later (omega (arith, e)))
     at false e later = absurd (omega (arith, e))
 
-length_due : (old : ℕ) (as' : List ℕ) → length (due_of old as') ≡ length as'
-length_due old [] = refl
-length_due old (a ∷ as') = omega (arith, length_due old as')
+length_old : (old : ℕ) (as' : List ℕ) → length (only_old old as') ≡ length as'
+length_old old [] = refl
+length_old old (a ∷ as') = omega (arith, length_old old as')
 
 not_young : (a old : ℕ) → not (ltb a old) ≡ leb old a
 not_young a old = at (cases_lt a old)
   where
     at : (a < old) ⊎ (old ≤ a) → not (ltb a old) ≡ leb old a
     at (inl young) = rw (lt-ltb a old young, lt-leb old a young) refl
-    at (inr waited) = rw (le-ltb a old waited, le-leb old a waited) refl
+    at (inr is_old) = rw (le-ltb a old is_old, le-leb old a is_old) refl
 
 -- one pan, and those behind it
-pub dues_next :
+pub old_next :
     (old : ℕ) (ws as' : List ℕ) (i : ℕ) → length as' ≡ length ws →
-    number_of (due_of old (drop i as')) ≡ bit (due_at old ws as' i) + 2 * number_of (due_of old (drop (i + 1) as'))
-dues_next old ws as' i paired = at (cases_lt i (length ws))
+    number_of (only_old old (drop i as')) ≡ bit (old_at old ws as' i) + 2 * number_of (only_old old (drop (i + 1) as'))
+old_next old ws as' i paired = at (cases_lt i (length ws))
   where
-    at : (i < length ws) ⊎ (length ws ≤ i) → number_of (due_of old (drop i as')) ≡ bit (due_at old ws as' i) + 2 * number_of (due_of old (drop (i + 1) as'))
+    at : (i < length ws) ⊎ (length ws ≤ i) → number_of (only_old old (drop i as')) ≡ bit (old_at old ws as' i) + 2 * number_of (only_old old (drop (i + 1) as'))
     at (inl few) = rw (drop_ages old ws as' i paired few, lt-ltb i (length ws) few, not_young (get_or as' i 0) old) refl
     at (inr past) = rw (no_ages old ws as' i paired past, drop_all (i + 1) as' (omega arith), le-ltb i (length ws) past) refl
 
 -- behind the last pan there is none
-pub dues_all : (old : ℕ) (as' : List ℕ) (i : ℕ) → length as' ≤ i → number_of (due_of old (drop i as')) ≡ 0
-dues_all old as' i past = rw (drop_all i as' past) refl
+pub old_all : (old : ℕ) (as' : List ℕ) (i : ℕ) → length as' ≤ i → number_of (only_old old (drop i as')) ≡ 0
+old_all old as' i past = rw (drop_all i as' past) refl
 
 -- what two pans are marked for is small
 pub marks_small : (i : ℕ) (o o' : Bool) → i + 1 ≤ 24 → bit o * 2 ^ i + bit o' * 2 ^ (i + 1) ≤ 2 ^ 25
@@ -59,16 +59,16 @@ marks_small i o o' low = omega (arith, mark i o (omega (arith, low)), mark (i + 
     mark k false few = omega arith
 
 -- what two pans are marked for, beside those that have to be opened: the marks of both, and what is left
-pub dues_two :
-    (old : ℕ) (ws as' : List ℕ) (pair pans : ℕ) (o o' : Bool) → length as' ≡ length ws → bit (due_at old ws as' (2 * pair) || o) ≡ bit (due_at old ws as' (2 * pair)) + bit o →
-    bit (due_at old ws as' (2 * pair + 1) || o') ≡ bit (due_at old ws as' (2 * pair + 1)) + bit o' →
-    pans + 2 ^ (2 * pair) * number_of (due_of old (drop (2 * pair) as')) + (bit o * 2 ^ (2 * pair) + bit o' * 2 ^ (2 * pair + 1))
-    ≡ pans + bit (due_at old ws as' (2 * pair) || o) * 2 ^ (2 * pair) + bit (due_at old ws as' (2 * pair + 1) || o') * 2 ^ (2 * pair + 1)
-    + 2 ^ (2 * (pair + 1)) * number_of (due_of old (drop (2 * (pair + 1)) as'))
-dues_two old ws as' pair pans o o' paired e f =
+pub old_two :
+    (old : ℕ) (ws as' : List ℕ) (pair pans : ℕ) (o o' : Bool) → length as' ≡ length ws → bit (old_at old ws as' (2 * pair) || o) ≡ bit (old_at old ws as' (2 * pair)) + bit o →
+    bit (old_at old ws as' (2 * pair + 1) || o') ≡ bit (old_at old ws as' (2 * pair + 1)) + bit o' →
+    pans + 2 ^ (2 * pair) * number_of (only_old old (drop (2 * pair) as')) + (bit o * 2 ^ (2 * pair) + bit o' * 2 ^ (2 * pair + 1))
+    ≡ pans + bit (old_at old ws as' (2 * pair) || o) * 2 ^ (2 * pair) + bit (old_at old ws as' (2 * pair + 1) || o') * 2 ^ (2 * pair + 1)
+    + 2 ^ (2 * (pair + 1)) * number_of (only_old old (drop (2 * (pair + 1)) as'))
+old_two old ws as' pair pans o o' paired e f =
     let two : 2 * (pair + 1) ≡ 2 * pair + 1 + 1 = omega arith in
-    rw (two, twice (2 * pair + 1), twice (2 * pair), e, f, dues_next old ws as' (2 * pair) paired, dues_next old ws as' (2 * pair + 1) paired)
-    (marks (2 ^ (2 * pair)) (number_of (due_of old (drop (2 * pair + 1 + 1) as'))) (bit (due_at old ws as' (2 * pair))) (bit (due_at old ws as' (2 * pair + 1))) (bit o) (bit o'))
+    rw (two, twice (2 * pair + 1), twice (2 * pair), e, f, old_next old ws as' (2 * pair) paired, old_next old ws as' (2 * pair + 1) paired)
+    (marks (2 ^ (2 * pair)) (number_of (only_old old (drop (2 * pair + 1 + 1) as'))) (bit (old_at old ws as' (2 * pair))) (bit (old_at old ws as' (2 * pair + 1))) (bit o) (bit o'))
   where
     twice : (i : ℕ) → 2 ^ (i + 1) ≡ 2 * 2 ^ i
     twice i = rw (add-one i, pow-succ' 2 i) refl
@@ -77,10 +77,10 @@ dues_two old ws as' pair pans o o' paired e f =
     marks p n a b c d = grind arith
 
 -- what is read so far and what is left is small
-pub dues_small : (old : ℕ) (as' : List ℕ) (i n : ℕ) → length as' ≤ 24 → i ≤ 24 → n < 2 ^ i → n + 2 ^ i * number_of (due_of old (drop i as')) < 2 ^ 24
-dues_small old as' i n few low small =
-    let rest = number_of (due_of old (drop i as')) in
-    let below : rest < 2 ^ (24 - i) = omega (arith, number_lt (due_of old (drop i as')), pow_mono {i = length (due_of old (drop i as'))} {j = 24 - i} (omega (arith, length_due old (drop i as'), length-drop i as'))) in
+pub old_small : (old : ℕ) (as' : List ℕ) (i n : ℕ) → length as' ≤ 24 → i ≤ 24 → n < 2 ^ i → n + 2 ^ i * number_of (only_old old (drop i as')) < 2 ^ 24
+old_small old as' i n few low small =
+    let rest = number_of (only_old old (drop i as')) in
+    let below : rest < 2 ^ (24 - i) = omega (arith, number_lt (only_old old (drop i as')), pow_mono {i = length (only_old old (drop i as'))} {j = 24 - i} (omega (arith, length_old old (drop i as'), length-drop i as'))) in
     let more : rest + 1 ≤ 2 ^ (24 - i) = omega (arith, below) in
     let whole : 2 ^ i * 2 ^ (24 - i) ≡ 2 ^ 24 = let e : i + (24 - i) ≡ 24 = omega arith in rw (sym_pow i) (rw e refl) in
     omega (arith, mul-le-mul_left (2 ^ i) more, mul-add (2 ^ i) rest 1, mul-one (2 ^ i), whole, small)
