@@ -1,8 +1,8 @@
 -- What a look over the pans has to tell of a choice. Assumes nothing: these are definitions.
 --   ticked       for each number whether it passes a test, as 1 or 0
 --   empty_ones   for each pan whether it is empty
---   old_ones     for each pan whether it has waited so many bags, or more
---   old_count_of   how many pans have waited so many bags, or more
+--   old_ones     for each pan whether it is old: it has waited so many bags, or more
+--   old_count_of how many pans are old
 --   Tallied      a tally is that of a choice: each of its numbers adds up over the opened pans
 --   Adds         a tally is two others added up
 --   makes_bag    what a tally has to be for the choice to fit a rule, where so many pans are old

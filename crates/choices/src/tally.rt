@@ -7,7 +7,7 @@ ghost use Rattle.choices.specs.Tallied.{Adds, Tallied, makes_bag, old_count_of};
 use crate::ring::Ring;
 use crate::rule::Rule;
 
-// What the opened pans weigh, how many they are, how many of them are empty, and how many have waited too long.
+// What the opened pans weigh, how many they are, how many of them are empty, and how many are old.
 #[derive(Clone, Copy, Default)]
 pub struct Tally {
     pub weight: u32,
@@ -30,7 +30,7 @@ impl Tally {
         }
     }
 
-    // The tally with one pan more, of which is known whether it has waited too long and whether it is opened.
+    // The tally with one pan more, of which is known whether it is old and whether it is opened.
     fn with(self, weight: u32, is_old: bool, opened: bool) -> Tally
         requires { (self.weight + weight < 2 ^ 32) × ((self.pans + 1 < 2 ^ 32) × ((self.empty + 1 < 2 ^ 32) × (self.old + 1 < 2 ^ 32))) }
         ensures weighs { result.weight ≡ self.weight + (if opened then weight else 0) }
@@ -51,7 +51,7 @@ impl Tally {
         self.and(added)
     }
 
-    // Whether a choice with this tally makes a bag by a rule, where so many pans have waited too long.
+    // Whether a choice with this tally makes a bag by a rule, where `old_count` pans are old.
     pub fn fits(self, rule: Rule, old_count: u32) -> bool
         requires { rule.target + rule.above < 2 ^ 32 }
         ensures { result ≡ makes_bag rule old_count self }
@@ -75,7 +75,7 @@ pub fn look(ring: Ring, choice: u32) -> Tally
     seen
 }
 
-// How many pans have waited too long.
+// How many pans are old: their age is the rule's age or more.
 pub fn old_count(ring: Ring) -> u32
     ensures { result ≡ old_count_of ring.entry.rule.age ring.entry.ages.now }
 {
