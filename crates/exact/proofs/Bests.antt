@@ -1,4 +1,4 @@
--- The choice of the fewest free pans, joined with the pans that have to be opened, is the best of all that fit.
+-- The choice of the fewest free pans, joined with the old pans, is the best of all that fit.
 use Rattle.std.proofs.Common.{◌≡◌, ℕ, ◌+◌, ◌-◌, ◌*◌, ◌^◌, ◌<◌, ◌≤◌, ◌⊎◌, true, false, not, List, length, get_or, None, inl, inr, refl, sym, ◌∙◌, arith}
 use Rattle.std.proofs.lemmas.Bool.{cases_lt, not-false}
 use Rattle.std.proofs.lemmas.Nat.{pow_below}
@@ -16,7 +16,7 @@ use Rattle.exact.specs.Old.{OldPansOf}
 use Rattle.exact.specs.declared.old.OldPans.{OldPans}
 use Rattle.exact.proofs.Joining.{Joined, join, Split, split, with_old, without_old, more_free, length_free, few_le}
 
--- what is to be made: the pans that have to be opened leave so much to the target
+-- the old pans leave so much to the target
 pub record Left (r : Rule) (ws as' : List ℕ) (x : ℕ) : Type 0 where
   pub paired : length as' ≡ length ws
   pub few : length ws ≤ 24
@@ -38,7 +38,7 @@ left r {d = d} o paired few target filled old_few light =
       makes = omega (arith, o.weighs);
     }
 
--- what any choice that fits makes of the free pans
+-- a choice that fits, and its free pans alone
 pub record Apart (r : Rule) (ws as' : List ℕ) (ds : Choice) : Type 0 where
   pub fitted : Fitting r ws as' ds
   pub parts : Split r.age ws as' ds
@@ -46,7 +46,7 @@ pub record Apart (r : Rule) (ws as' : List ℕ) (ds : Choice) : Type 0 where
 pub apart : (r : Rule) (ws as' : List ℕ) (ds : Choice) → length as' ≡ length ws → fits r ws as' ds ≡ true → Apart r ws as' ds
 apart r ws as' ds paired h = let f = fitting r ws as' ds h in record { fitted = f; parts = split r.age ws as' ds paired f.whole f.filled f.old_opened }
 
--- one that weighs just the target makes what is left
+-- of a choice that weighs exactly the target, the free pans weigh what is left
 makes_left :
     {r : Rule} {ws as' : List ℕ} {x : ℕ} {ds : Choice} → Left r ws as' x → Apart r ws as' ds → weight_of ws ds ≡ r.target →
     Makes (opened (without_old r.age as' ds)) (free_of r.age ws as') x (without_old r.age as' ds)
@@ -57,7 +57,7 @@ makes_left {r} {ws} {as'} l a just =
       weighs = omega (arith, l.makes, a.parts.weighs);
     }
 
--- the chosen one, joined with the pans that have to be opened
+-- the chosen free pans, joined with the old pans
 joined :
     {r : Rule} {ws as' : List ℕ} {x n : ℕ} → Left r ws as' x → (s : ChosenAt (r.pans - opened (only_old r.age as')) (free_of r.age ws as') x n) →
     Joined r.age ws as' s.picked.choice
@@ -120,7 +120,7 @@ best_chosen {r} {ws} {as'} {x} {n} l s =
             (omega (arith, m.weighs, l.makes, l.target))
             ∙ s.picked.first.first (without_old r.age as' ds) (rw k at (makes_left l a e))
 
--- its number fits
+-- its number fits in 32 bits
 pub chosen_fits :
     {r : Rule} {ws as' : List ℕ} {x n : ℕ} → Left r ws as' x → ChosenAt (r.pans - opened (only_old r.age as')) (free_of r.age ws as') x n →
     number_of (only_old r.age as') + n < 2 ^ 32
@@ -129,9 +129,9 @@ chosen_fits {r} {ws} {as'} l s =
     let below : number_of (with_old r.age as' s.picked.choice) < 2 ^ length ws = rw j.whole at (number_lt (with_old r.age as' s.picked.choice)) in
     omega (arith, j.numbers, s.picked.is, pow_below (length ws) 32 (omega (arith, l.few)))
 
--- ---- where none is answered there is no such choice
+-- ---- `None`: there is no easy choice
 
--- one tells what the pans that have to be opened are
+-- what an easy choice tells of the old pans
 pub record Known (r : Rule) (ws as' : List ℕ) : Type 0 where
   pub fills : none_empty ws (only_old r.age as') ≡ true
   pub old_few : opened (only_old r.age as') ≤ r.pans
@@ -150,7 +150,7 @@ none_chosen {r} {ws} {as'} {x} {cs} l none e =
     none (opened (without_old r.age as' cs)) (omega (arith, a.parts.counts, a.fitted.few)) (omega (arith, a.parts.counts, e.few)) (without_old r.age as' cs)
     (makes_left l a e.just)
 
--- nor where even four of the heaviest are too light
+-- there is none where even four of the heaviest are too light
 pub none_heavy :
     {r : Rule} {ws as' : List ℕ} {x h : ℕ} {cs : Choice} → Left r ws as' x → 4 * h < x →
     ((i : ℕ) → i < length (free_of r.age ws as') → get_or (free_of r.age ws as') i 0 ≤ x → get_or (free_of r.age ws as') i 0 ≤ h) → Easy r ws as' cs → ⊥

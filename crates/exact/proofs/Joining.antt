@@ -1,10 +1,10 @@
--- A choice of free pans joined with the pans that have to be opened, and what is left of a choice without these.
+-- A choice of free pans joined with the old pans, and what is left of a choice without these.
 use Rattle.std.proofs.Common.{◌≡◌, ℕ, zero, suc, ◌+◌, ◌*◌, ◌<◌, ◌≤◌, Bool, true, false, cond, not, ◌&&◌, ◌||◌, ltb, leb, List, [], ◌∷◌, length, get_or, refl, ap, add-mul, mul-le-mul_right, arith}
 use Rattle.std.proofs.lemmas.Bool.{and_parts, and_from, leb-true}
 use Rattle.choices.specs.Choice.{Choice, bit, weight_of, opened, none_empty, keeps_old}
 use Rattle.choices.specs.Numbered.{number_of}
 use Rattle.order.specs.Order.{first_more}
-use Rattle.exact.specs.Pans.{only_old, loose, free_of}
+use Rattle.exact.specs.Pans.{only_old, if_free, free_of}
 use Rattle.exact.specs.Few.{Makes}
 
 -- ---- the weights of free pans
@@ -16,22 +16,22 @@ length_free old (w ∷ ws) (a ∷ as') e = ap suc (length_free old ws as' (omega
 
 pub free_at :
     (old : ℕ) (ws as' : List ℕ) (i : ℕ) → length as' ≡ length ws → i < length ws →
-    get_or (free_of old ws as') i 0 ≡ loose (ltb (get_or as' i 0) old) (get_or ws i 0)
+    get_or (free_of old ws as') i 0 ≡ if_free (ltb (get_or as' i 0) old) (get_or ws i 0)
 free_at old [] as' i e less = absurd (omega arith)
 free_at old (w ∷ ws) [] i e less = absurd (omega arith)
 free_at old (w ∷ ws) (a ∷ as') zero e less = refl
 free_at old (w ∷ ws) (a ∷ as') (suc i) e less = free_at old ws as' i (omega arith) (omega arith)
 
-loose_some : (b : Bool) (w : ℕ) → 1 ≤ loose b w
-loose_some false w = omega arith
-loose_some true w = at (leb 1 w) refl
+if_free_some : (b : Bool) (w : ℕ) → 1 ≤ if_free b w
+if_free_some false w = omega arith
+if_free_some true w = at (leb 1 w) refl
   where
     at : (f : Bool) → leb 1 w ≡ f → 1 ≤ cond f w 2000000
     at true e = leb-true 1 w e
     at false e = omega arith
 
-loose_most : (b : Bool) (w : ℕ) → w ≤ 1000000 → loose b w ≤ 2000000
-loose_most b w h = at (b && leb 1 w)
+if_free_most : (b : Bool) (w : ℕ) → w ≤ 1000000 → if_free b w ≤ 2000000
+if_free_most b w h = at (b && leb 1 w)
   where
     at : (d : Bool) → cond d w 2000000 ≤ 2000000
     at true = omega arith
@@ -39,15 +39,15 @@ loose_most b w h = at (b && leb 1 w)
 
 pub free_some : (old : ℕ) (ws as' : List ℕ) → length as' ≡ length ws → (i : ℕ) → i < length (free_of old ws as') → 1 ≤ get_or (free_of old ws as') i 0
 free_some old ws as' e i less =
-    rw (free_at old ws as' i e (omega (arith, length_free old ws as' e))) (loose_some (ltb (get_or as' i 0) old) (get_or ws i 0))
+    rw (free_at old ws as' i e (omega (arith, length_free old ws as' e))) (if_free_some (ltb (get_or as' i 0) old) (get_or ws i 0))
 
 pub free_most :
     (old : ℕ) (ws as' : List ℕ) → length as' ≡ length ws → ((i : ℕ) → get_or ws i 0 ≤ 1000000) →
     (i : ℕ) → i < length (free_of old ws as') → get_or (free_of old ws as') i 0 ≤ 2000000
 free_most old ws as' e light i less =
-    rw (free_at old ws as' i e (omega (arith, length_free old ws as' e))) (loose_most (ltb (get_or as' i 0) old) (get_or ws i 0) (light i))
+    rw (free_at old ws as' i e (omega (arith, length_free old ws as' e))) (if_free_most (ltb (get_or as' i 0) old) (get_or ws i 0) (light i))
 
--- ---- a choice joined with the pans that have to be opened
+-- ---- a choice joined with the old pans
 
 abbrev pub with_old : ℕ → List ℕ → Choice → Choice
 with_old old [] cs = []
@@ -62,7 +62,7 @@ pub record Joined (old : ℕ) (ws as' : List ℕ) (cs : Choice) : Type 0 where
   pub fills : none_empty ws (only_old old as') ≡ true → none_empty ws (with_old old as' cs) ≡ true
   pub old_opened : keeps_old old as' (with_old old as' cs) ≡ true
 
--- one pan: whether it is opened, may wait and is filled
+-- one pan: whether it is opened, young and filled
 joined_pan :
     (c b f : Bool) (w : ℕ) → cond c (cond (b && f) w 2000000) 0 < 2000000 →
     (cond (c || not b) w 0 ≡ cond (not b) w 0 + cond c (cond (b && f) w 2000000) 0) × (bit (c || not b) ≡ bit (not b) + bit c)
@@ -92,7 +92,7 @@ join old (w ∷ ws) (a ∷ as') (c ∷ cs) e f less =
       old_opened = and_from _ _ p.3 h.old_opened;
     }
 
--- ---- a choice without the pans that have to be opened
+-- ---- a choice without the old pans
 
 abbrev pub without_old : ℕ → List ℕ → Choice → Choice
 without_old old [] ds = []

@@ -1,4 +1,4 @@
--- One look over the pans for those that have to be opened, pan by pan: what is seen so far and what is left make up the whole.
+-- The old pans added up pan by pan: the sums so far, and what is left, make up the whole.
 use Rattle.std.proofs.Common.{◌≡◌, ℕ, suc, ◌+◌, ◌*◌, ◌^◌, ◌<◌, ◌≤◌, true, false, ◌&&◌, leb, List, ◌∷◌, length, get_or, add-one, arith}
 use mathlib.Core.Bool.{and_assoc}
 use native.Mathlib.Nat.{pow-succ'}

@@ -1,6 +1,7 @@
 -- What the search answers. Assumes nothing: these are definitions.
---   Easy      a choice by the rule that weighs just the target and opens at most four pans beside those that have to be opened
---   Answers   the best bag; or none, and then there is no such choice, or the room is too short to find one
+--   Easy         a choice that fits, weighs exactly the target and opens at most four pans besides the old ones
+--   room_bytes   the bytes that two tables up to a target take
+--   Answers      the best bag; None: there is no easy choice, or the room is too short to find one
 use Rattle.std.specs.Prelude.{◌≡◌, ℕ, ◌+◌, ◌*◌, ◌≤◌, true, List, Some, None, Option}
 use Rattle.choices.specs.Choice.{Choice, weight_of, opened, fits}
 use Rattle.choices.specs.declared.rule.Rule.{Rule}

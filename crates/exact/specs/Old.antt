@@ -1,4 +1,5 @@
--- What a look over a ring has to tell of the pans that have to be opened. Assumes nothing: this is a definition.
+-- What is told of the old pans of a ring. Assumes nothing: this is a definition.
+--   OldPansOf   what they weigh, how many they are, the number of the choice of them, and whether none of them is empty
 use Rattle.std.specs.Prelude.{◌≡◌, ℕ, List}
 use Rattle.choices.specs.Choice.{weight_of, opened, none_empty}
 use Rattle.choices.specs.Numbered.{number_of}

@@ -1,4 +1,4 @@
-// The best bag of a ring where it weighs just the target.
+// The best bag of a ring, where it weighs exactly the target.
 ghost use Rattle.std.specs.Prelude.{length};
 ghost use Rattle.exact.specs.Answers.{Answers};
 
@@ -8,8 +8,10 @@ use crate::old::old_pans;
 use choices::Ring;
 use order::Bag;
 
-// The best of all choices that fit the ring's rule, where one of them weighs just the target and opens at most four pans beside
-// those that have to be opened; none where no choice does, or where the room is too short for two tables up to the target.
+/// The best bag of a ring, if it can weigh exactly the target with at most four pans besides the old ones.
+///
+/// Answers `None` where no such choice fits the ring's rule, and may do so where `room` is shorter than 2 * (target + 2)
+/// bytes. `room` may hold anything; its contents are unspecified afterwards.
 pub fn best(ring: Ring, room: &mut [u8]) -> Option<Bag>
     ensures { Answers ring.entry.rule ring.entry.weights.now ring.entry.ages.now (length room.old) result }
 {

@@ -1,18 +1,22 @@
-// The pans of a ring that have to be opened.
+// The old pans of a ring.
 ghost use Rattle.exact.specs.Old.{OldPansOf};
 
 use choices::Ring;
 
-// What they weigh, how many they are, their choice as the number that is answered, and whether none of them is empty.
+/// What the old pans of a ring add up to. Old is a pan whose age is the rule's age or more: it has to be opened.
 #[derive(Clone, Copy)]
 pub struct OldPans {
+    /// What they weigh together.
     pub weight: u32,
+    /// How many they are.
     pub pans: u32,
+    /// The choice that opens just them: bit `i` is pan `i`.
     pub number: u32,
+    /// Whether none of them is empty.
     pub filled: bool,
 }
 
-// Weights and ages gone through side by side.
+/// Adds up the old pans of a ring.
 pub fn old_pans(ring: Ring) -> OldPans
     ensures { OldPansOf ring.entry.rule.age ring.entry.weights.now ring.entry.ages.now result }
 {

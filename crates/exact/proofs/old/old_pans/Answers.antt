@@ -1,4 +1,4 @@
--- What is left of the proof of the look over the pans.
+-- What is left of the proof that the old pans are added up.
 use Rattle.std.proofs.Common.{refl, arith}
 use Rattle.std.proofs.lemmas.Nat.{one_shl}
 use Rattle.exact.proofs.SummingOld.{summing_room, summing_old, summing_young}

@@ -1,4 +1,4 @@
--- What the look over the pans keeps from turn to turn.
+-- What the loop over the pans keeps: the sums so far.
 use Rattle.std.specs.Slice.Iter.{iter_rest}
 use Rattle.std.specs.Iterator.Adapters.{enumerate_count, enumerate_source, zip_first, zip_second}
 use Rattle.exact.proofs.SummingOld.{SummingOld}
