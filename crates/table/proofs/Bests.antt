@@ -1,4 +1,4 @@
--- The first weight of the window that few enough pans make is the best bag's, and the first choice of it the best.
+-- The lightest weight in the window that few enough pans make is the best bag's, and the first choice of it the best.
 use Rattle.std.proofs.Common.{◌≡◌, ℕ, ◌+◌, ◌-◌, ◌*◌, ◌<◌, ◌≤◌, min, true, false, ◌&&◌, ltb, leb, ◌⊎◌, List, [], ◌∷◌, length, get_or, None, sym, refl, ◌∙◌, inl, inr, arith}
 use Rattle.std.proofs.lemmas.Bool.{and_parts, and_from, both_ways, cases_lt, false_from_ne_true, or_right, le-leb, leb-true}
 use Rattle.choices.specs.Choice.{Choice, weight_of, opened, none_empty, keeps_old, fits}
@@ -53,7 +53,7 @@ wanted r ws as' cs paired h =
       small = omega (arith, opened_le cs, f.whole);
     }
 
--- where the pans that have to be opened leave no bag
+-- where the old pans leave no bag possible
 pub none_left :
     (r : Rule) (ws as' : List ℕ) → length as' ≡ length ws →
     (none_old_empty r.age ws as' && (leb (old_count_of r.age as') r.pans && leb (old_weight_of r.age ws as') (r.target + r.above))) ≡ false →
@@ -71,7 +71,7 @@ none_left r ws as' paired test cs = false_from_ne_true (fits r ws as' cs) at
 
 -- ---- the table's answer
 
--- a full table of a ring that may have a bag: its last row, and the window in it
+-- a full table of a ring that may have a bag: the row of all pans, and the window in it
 pub record Window (r : Rule) (ws as' : List ℕ) (most start from limit : ℕ) (bytes : List ℕ) : Type 0 where
   pub paired : length as' ≡ length ws
   pub small : length ws ≤ 24
@@ -82,7 +82,7 @@ pub record Window (r : Rule) (ws as' : List ℕ) (most start from limit : ℕ) (
   pub enough : from ≡ r.target - old_weight_of r.age ws as'
   pub few : limit ≡ min (r.pans - old_count_of r.age as') 254
 
--- a weight at which a choice fits is not passed over
+-- a weight at which a choice fits is not missed
 missed :
     {r : Rule} {ws as' : List ℕ} {most start from limit : ℕ} {bytes : List ℕ} {y : ℕ} {cs : Choice} → Window r ws as' most start from limit bytes →
     Wanted r ws as' y cs → limit < get_or bytes (start + y) 0 → ⊥
@@ -171,7 +171,7 @@ window {r} {ws} {as'} {s} h test paired small is within rows enough few =
       few = omega (arith, h.old_count);
     }
 
--- two pans reach back no further than the bytes in front of a row, or no weight of it does
+-- two pans reach back no further than the pad, or it is as long as the row
 pub reaches :
     {old : ℕ} {ws as' : List ℕ} {s : Survey} (most : ℕ) {pad width : ℕ} → Surveyed old ws as' s → length as' ≡ length ws → pad ≡ pad_of most s.heaviest → width ≡ width_of most →
     Reaches old ws as' pad width
@@ -181,7 +181,7 @@ reaches {old} {ws} {as'} {s} most h paired is wide = λ i less.
     let far = pad_reaches most s.heaviest (free_at old ws as' i) (free_at old ws as' (i + 1)) (omega (arith, first, h.heavy)) (omega (arith, second, h.heavy)) (omega (arith, less, is)) in
     omega (arith, far, is, wide)
 
--- rows for all weights that matter to a window are rows for those that matter to a weight in it
+-- rows that are right for the window are right for each weight in it
 pub rows_from :
     {old : ℕ} {ws as' : List ℕ} {from most pad wide x : ℕ} {bytes : List ℕ} → Rows old ws as' from most pad wide 0 bytes → from ≤ x → Rows old ws as' x most pad wide 0 bytes
 rows_from h more = record { row = λ i low high. record { least = λ y enough within. (h.row i low high).least y (omega arith) within }; blank = h.blank }

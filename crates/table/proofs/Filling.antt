@@ -1,4 +1,4 @@
--- Rows that are filled from the last two pans to the first: what one row more keeps and adds.
+-- The rows are filled from the last two pans to the first: what one row more keeps and adds.
 use Rattle.std.proofs.Common.{◌≡◌, ℕ, zero, suc, ◌+◌, ◌-◌, ◌*◌, ◌<◌, ◌≤◌, Bool, true, false, cond, ◌||◌, ltb, leb, ◌≢◌, ◌⊎◌, List, [], ◌∷◌, length, get_or, drop, sym, refl, ◌∙◌, length-drop, inl, inr, mul-le-mul_left, mul-one, mul-add, arith}
 use Rattle.std.proofs.lemmas.List.{drop_all, drop_more, get_or_past}
 use Rattle.std.proofs.lemmas.Bool.{cases_lt, and_parts, both_ways, leb-false}
@@ -61,7 +61,7 @@ module _ (old : ℕ) (ws as' : List ℕ) (i : ℕ) (paired : length as' ≡ leng
   pub before_le : free_before old ws as' i + free_at old ws as' i ≤ free_weight old ws as'
   before_le = omega (arith, free_next, free_drop_le old i ws as')
 
-  -- a pan may be opened or stay shut; or the rows leave it out, and what they hold is the same with it
+  -- a pan may be opened or stay shut; or it is old, empty or not there, and the row is the same with it
   pub data Kind : Type 0 where
     free : i < length ws → ltb (get_or as' i 0) old ≡ true → leb 1 (get_or ws i 0) ≡ true → free_at old ws as' i ≡ get_or ws i 0 → Kind
     idle : free_at old ws as' i ≡ 0 →
@@ -107,7 +107,7 @@ pub row_same :
     {old : ℕ} {ws as' : List ℕ} {from most : ℕ} {f g : ℕ → ℕ} → Row old ws as' from most f → ((x : ℕ) → from ≤ x → x ≤ most → g x ≡ f x) → Row old ws as' from most g
 row_same h same = record { least = λ x low high. rw (same x low high) (h.least x low high) }
 
--- the rows so far, and where weight 0 stands in the newest
+-- the rows so far; weight 0 of the newest stands at `at`
 pub record Filling (old : ℕ) (ws as' : List ℕ) (from most pad wide pair row before : ℕ) (bytes : List ℕ) : Type 0 where
   pub at : row ≡ pad + wide * (pairs_of (length ws) - pair)
   pub earlier : before ≡ free_before old ws as' (2 * pair)
@@ -207,7 +207,7 @@ filling_next {old} {ws} {as'} {from} {most} {pad} {wide} {pair} {row} {before} {
         let f : wide * (pairs_of (length ws) - pair) + j ≡ row + (wide - pad) + j = omega (arith, h.at, more) in
         rw (e, f) (blank j short)
 
--- what the next two pans weigh is among what the free pans before weigh
+-- the next two pans are among the free pans before
 pub filling_before :
     {old : ℕ} {ws as' : List ℕ} {from most pad wide pair row before : ℕ} {bytes : List ℕ} → length as' ≡ length ws → 0 < pair →
     Filling old ws as' from most pad wide pair row before bytes → free_at old ws as' (2 * (pair - 1)) + free_at old ws as' (2 * (pair - 1) + 1) ≤ before
@@ -252,7 +252,7 @@ filling_room {ws = ws} {wide = wide} {pair} h some few =
     let m : pairs_of (length ws) - pair + 1 ≤ pairs_of (length ws) = omega arith in
     omega (arith, mul-add wide (pairs_of (length ws) - pair) 1, mul-add wide (pairs_of (length ws)) 1, mul-one wide, mul-le-mul_left wide m, h.at)
 
--- where the row of the pans behind two stands
+-- where the row of the pans behind the next two stands
 pub row_below : (pad wide pairs pair row : ℕ) → pair < pairs → row ≡ pad + wide * (pairs - pair) → (pad + wide ≤ row) × (row - wide ≡ pad + wide * (pairs - (pair + 1)))
 row_below pad wide pairs pair row few is =
     let n : pairs - pair ≡ pairs - (pair + 1) + 1 = omega arith in

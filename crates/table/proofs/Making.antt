@@ -1,4 +1,4 @@
--- Choices of some pans and of one pan more, in front: what the least count and the first choice are with it.
+-- One pan more in front of some pans: what the least count and the first choice are with it.
 use Rattle.std.proofs.Common.{◌≡◌, ℕ, suc, ◌+◌, ◌-◌, ◌<◌, ◌≤◌, min, Bool, true, false, cond, ltb, leb, ◌⊎◌, List, [], ◌∷◌, length, refl, ap, inl, inr, arith}
 use Rattle.std.proofs.lemmas.Bool.{and_parts, and_from, both_ways, cases_lt}
 use Rattle.choices.specs.Choice.{Choice, weight_of, opened, none_empty, keeps_old}
@@ -10,7 +10,7 @@ cond_le : (b : Bool) (w : ℕ) → cond b 0 w ≤ w
 cond_le true w = omega arith
 cond_le false w = omega arith
 
--- whatever is opened, the pans that have to be are among it
+-- a choice that opens all old pans weighs at least what they weigh, and opens at least as many
 pub old_weight_le :
     (old : ℕ) (ws as' : List ℕ) (cs : Choice) → length cs ≡ length ws → keeps_old old as' cs ≡ true → old_weight_of old ws as' ≤ weight_of ws cs
 old_weight_le old [] as' cs e h = omega arith
@@ -43,7 +43,7 @@ weight_le old (w ∷ ws) (a ∷ as') (c ∷ cs) e = omega (arith, weight_le old 
     split true false = omega arith
     split false b = omega arith
 
--- what the first pan is to a choice, and what is left of the choice
+-- the first pan in a choice, and the choice of the other pans
 pub data Taken (old w a : ℕ) (ws as' : List ℕ) (x : ℕ) : Choice → Type 0 where
   shut : {ds : Choice} → ltb a old ≡ true → Makes old ws as' x ds → Taken old w a ws as' x (false ∷ ds)
   old_pan : {ds : Choice} → ltb a old ≡ false → Makes old ws as' x ds → Taken old w a ws as' x (true ∷ ds)
@@ -94,7 +94,7 @@ module _ {old w a : ℕ} {ws as' : List ℕ} {x k : ℕ} where
       low (old_pan g m) = rw e (omega (arith, h.low _ m))
       low (free g l n m) = absurd (both_ways _ e g)
 
-  -- empty, or too heavy
+  -- the pan is empty, or too heavy
   pub least_barred : ltb a old ≡ true → (leb 1 w ≡ true → w ≤ x → ⊥) → Least old ws as' x k → Least old (w ∷ ws) (a ∷ as') x k
   least_barred e barred h =
       record {
@@ -124,7 +124,7 @@ module _ {old w a : ℕ} {ws as' : List ℕ} {x k : ℕ} where
       some below (inl less) = let s = h.some (omega arith) in (false ∷ s.0, makes_shut e s.1, rw e (omega (arith, s.2)))
       some below (inr more) = let s = h'.some (omega arith) in (true ∷ s.0, makes_free e f heavy s.1, rw e (omega (arith, s.2)))
 
--- a count of 255 or more says no more than 255
+-- a count of 255 or more is written as 255
 pub least_cap : {old : ℕ} {ws as' : List ℕ} {x k : ℕ} → Least old ws as' x k → Least old ws as' x (min k 255)
 least_cap {k = k} h =
     record {
@@ -164,7 +164,7 @@ module _ {old w a : ℕ} {ws as' : List ℕ} {x : ℕ} {cs : Choice} where
       first (old_pan g m) same = h.first _ m (omega arith)
       first (free g l n m) same = absurd (both_ways _ e g)
 
-  -- opened wherever the rest then takes fewer pans
+  -- the pan is opened where the rest then takes fewer pans
   pub first_open :
       {k k' : ℕ} → ltb a old ≡ true → leb 1 w ≡ true → w ≤ x → Least old (w ∷ ws) (a ∷ as') x k → k < 255 → Least old ws as' (x - w) k' → k' < k →
       First old ws as' (x - w) cs → First old (w ∷ ws) (a ∷ as') x (true ∷ cs)
@@ -185,7 +185,7 @@ module _ {old w a : ℕ} {ws as' : List ℕ} {x : ℕ} {cs : Choice} where
       first (old_pan g m) same = absurd (both_ways _ g e)
       first (free g l n m) same = h.first _ m (omega arith)
 
--- what a pan that has to be opened leaves to the others
+-- what an old pan leaves to the others
 pub least_old_rest : {old w a : ℕ} {ws as' : List ℕ} {x k : ℕ} → ltb a old ≡ false → leb 1 w ≡ true → Least old (w ∷ ws) (a ∷ as') x k → Least old ws as' x k
 least_old_rest {old} {w} {a} {ws} {as'} {x} {k} e f h =
     record {

@@ -1,4 +1,4 @@
--- The pans that have to be opened, as a number: what is left of it from a pan on.
+-- The number of the choice of the old pans: what is left of it from a pan on.
 use Rattle.std.proofs.Common.{◌≡◌, ℕ, ◌+◌, ◌-◌, ◌*◌, ◌^◌, ◌<◌, ◌≤◌, Bool, true, false, cond, not, ◌&&◌, ◌||◌, ltb, leb, ◌⊎◌, List, [], ◌∷◌, length, get_or, drop, refl, inl, inr, length-drop, mul-le-mul_left, mul-add, mul-one, add-one, arith}
 use native.Mathlib.Nat.{pow-succ'}
 use Rattle.std.proofs.lemmas.Nat.{pow-add}
@@ -12,11 +12,11 @@ use Rattle.exact.specs.Pans.{only_old}
 use Rattle.table.specs.Pans.{old_count_of}
 use Rattle.table.proofs.Filling.{drop_ages, no_ages}
 
--- whether there is such a pan, and it has to be opened
+-- whether pan i is there and old
 abbrev pub old_at : ℕ → (weights ages : List ℕ) → (pan : ℕ) → Bool
 old_at old ws as' i = ltb i (length ws) && leb old (get_or as' i 0)
 
--- where none is counted none is numbered
+-- where no pan is old the number is 0
 pub none_old : (old : ℕ) (as' : List ℕ) → old_count_of old as' ≡ 0 → number_of (only_old old as') ≡ 0
 none_old old [] e = refl
 none_old old (a ∷ as') e = at (ltb a old) e (λ rest. none_old old as' rest)
@@ -46,11 +46,11 @@ old_next old ws as' i paired = at (cases_lt i (length ws))
     at (inl few) = rw (drop_ages old ws as' i paired few, lt-ltb i (length ws) few, not_young (get_or as' i 0) old) refl
     at (inr past) = rw (no_ages old ws as' i paired past, drop_all (i + 1) as' (omega arith), le-ltb i (length ws) past) refl
 
--- behind the last pan there is none
+-- past the last pan it is 0
 pub old_all : (old : ℕ) (as' : List ℕ) (i : ℕ) → length as' ≤ i → number_of (only_old old (drop i as')) ≡ 0
 old_all old as' i past = rw (drop_all i as' past) refl
 
--- what two pans are marked for is small
+-- the bits of two pans are small
 pub marks_small : (i : ℕ) (o o' : Bool) → i + 1 ≤ 24 → bit o * 2 ^ i + bit o' * 2 ^ (i + 1) ≤ 2 ^ 25
 marks_small i o o' low = omega (arith, mark i o (omega (arith, low)), mark (i + 1) o' low)
   where
@@ -58,7 +58,7 @@ marks_small i o o' low = omega (arith, mark i o (omega (arith, low)), mark (i + 
     mark k true few = omega (arith, pow_mono {i = k} {j = 24} few)
     mark k false few = omega arith
 
--- what two pans are marked for, beside those that have to be opened: the marks of both, and what is left
+-- two free pans marked in the number of the old ones: the marks of both pans, and what is left
 pub old_two :
     (old : ℕ) (ws as' : List ℕ) (pair pans : ℕ) (o o' : Bool) → length as' ≡ length ws → bit (old_at old ws as' (2 * pair) || o) ≡ bit (old_at old ws as' (2 * pair)) + bit o →
     bit (old_at old ws as' (2 * pair + 1) || o') ≡ bit (old_at old ws as' (2 * pair + 1)) + bit o' →
@@ -76,7 +76,7 @@ old_two old ws as' pair pans o o' paired e f =
     marks : (p n a b c d : ℕ) → pans + p * (a + 2 * (b + 2 * n)) + (c * p + d * (2 * p)) ≡ pans + (a + c) * p + (b + d) * (2 * p) + 2 * (2 * p) * n
     marks p n a b c d = grind arith
 
--- what is read so far and what is left is small
+-- what is read so far and what is left fit in 24 bits
 pub old_small : (old : ℕ) (as' : List ℕ) (i n : ℕ) → length as' ≤ 24 → i ≤ 24 → n < 2 ^ i → n + 2 ^ i * number_of (only_old old (drop i as')) < 2 ^ 24
 old_small old as' i n few low small =
     let rest = number_of (only_old old (drop i as')) in

@@ -1,4 +1,4 @@
--- The choice that is read off the rows, pan by pan: what is read so far, with the first choice of what is left, is the first of all.
+-- The choice is read off the rows pan by pan: what is read so far, with the first choice of the rest, is the first of all.
 use Rattle.std.proofs.Common.{◌≡◌, ℕ, ◌+◌, ◌-◌, ◌*◌, ◌^◌, ◌<◌, ◌≤◌, Bool, true, false, cond, ◌||◌, ltb, leb, ◌⊎◌, List, [], ◌∷◌, length, get_or, drop, sym, refl, ◌∙◌, inl, inr, add-one, arith}
 use native.Mathlib.Nat.{pow-succ'}
 use Rattle.std.proofs.lemmas.List.{drop_all}
@@ -14,7 +14,7 @@ use Rattle.table.proofs.OldNumber.{old_at, old_two}
 use Rattle.exact.specs.Pans.{only_old}
 use Rattle.table.proofs.Filling.{Kind, kind, free, idle, drop_weights, drop_ages, no_weights, no_ages, before_next, none_old_at, row_next}
 
--- the pans before i are read; x is the weight of the whole, left what is left of it, and so many free pans make that
+-- the pans before i are read: of the weight x, `left` is left, and `count` free pans make that
 pub record Reading (old : ℕ) (ws as' : List ℕ) (most x i left count pans : ℕ) : Type 0 where
   pub least : Least old (drop i ws) (drop i as') left count
   pub some : count < 255
@@ -28,13 +28,13 @@ pub reading_none :
 reading_none {x = x} h low some =
     record { least = h.least x (omega arith) low; some = some; within = low; reach = omega arith; small = omega arith; goes = λ cs g. (cs, g, omega arith) }
 
--- a pan is opened or not: it is opened for its weight, has to be opened, or neither
+-- a pan is opened for its weight, opened since it is old, or stays shut
 pub data Stepped (old : ℕ) (ws as' : List ℕ) (pan weight with left count pans left' count' pans' : ℕ) : Type 0 where
   opens : with < count → left' ≡ left - weight → count' ≡ with → pans' ≡ pans + 2 ^ pan → Stepped old ws as' pan weight with left count pans left' count' pans'
   old_pan : count ≤ with → old_at old ws as' pan ≡ true → left' ≡ left → count' ≡ count → pans' ≡ pans + 2 ^ pan → Stepped old ws as' pan weight with left count pans left' count' pans'
   stays : count ≤ with → old_at old ws as' pan ≡ false → left' ≡ left → count' ≡ count → pans' ≡ pans → Stepped old ws as' pan weight with left count pans left' count' pans'
 
--- as the code tells it
+-- which of these it is, as the code works it out
 pub stepped :
     (old : ℕ) (ws as' : List ℕ) (pan weight with left count pans : ℕ) {left' pans' : ℕ} (o : Bool) → o ≡ ltb with count →
     left' ≡ left - cond o weight 0 → pans' ≡ pans + bit (old_at old ws as' pan || o) * 2 ^ pan →
@@ -57,12 +57,12 @@ stepped old ws as' pan weight with left count pans o is rest number = at o is re
         kept true e rest n = old_pan (ltb-false with count (sym is)) e (omega (arith, rest)) refl (omega (arith, n))
         kept false e rest n = stays (ltb-false with count (sym is)) e (omega (arith, rest)) refl (omega (arith, n))
 
--- the number with one pan more is small
+-- the number with one pan more fits its bits
 pub small_more : (i pans : ℕ) (c : Bool) → pans < 2 ^ i → pans + bit c * 2 ^ i < 2 ^ (i + 1)
 small_more i pans true h = rw (add-one i, pow-succ' 2 i) (omega arith)
 small_more i pans false h = rw (add-one i, pow-succ' 2 i) (omega arith)
 
--- what is found a weight back is a count only within the row
+-- a count that is found a weight back lies within the row
 pub back_within : (f : ℕ → ℕ) (w x : ℕ) → back f w x < 255 → w ≤ x
 back_within f w x h = at (cases_lt x w)
   where
@@ -96,7 +96,7 @@ module _
     later : free_before old ws as' (i + 1) ≡ free_before old ws as' i + free_at old ws as' i
     later = before_next old ws as' i paired
 
-    -- a pan that is not opened for its weight: it has to be, or opening it takes no fewer pans
+    -- a pan that is not opened for its weight: it is old, or opening it takes no fewer pans
     module _
         (old_filled : none_old_empty old ws as' ≡ true)
         (barred : leb 1 (get_or ws i 0) ≡ true → ltb (get_or as' i 0) old ≡ true → get_or ws i 0 ≤ left → (ds : Choice) →
@@ -158,7 +158,7 @@ module _
         same : f left < 255 → count ≤ f left
         same below = least_one h.least (goes left (f left) (rest.least left (omega (arith, h.reach, later, e)) h.within)) below
 
-    -- nor is one that has to be opened
+    -- nor is an old one
     opened_young :
         {with : ℕ} {f : ℕ → ℕ} → none_old_empty old ws as' ≡ true → Row old (drop (i + 1) ws) (drop (i + 1) as') (x - free_before old ws as' (i + 1)) most f →
         with ≡ back f (free_at old ws as' i) left → with < count → old_at old ws as' i ≡ false
@@ -182,7 +182,7 @@ module _
         at false true _ _ = refl
         at false false _ _ = refl
 
-    -- one pan more is read, beside the row of the pans behind it
+    -- one pan more is read, by the row of the pans behind it
     pub reading_next :
         {with left' count' pans' : ℕ} {f : ℕ → ℕ} → none_old_empty old ws as' ≡ true →
         Row old (drop (i + 1) ws) (drop (i + 1) as') (x - free_before old ws as' (i + 1)) most f → with ≡ back f (free_at old ws as' i) left →
@@ -220,14 +220,14 @@ module _
         at (old_pan more test to many number) = reading_old old_filled (barred more) test to many number
         at (stays more test to many number) = rw (to, many, number) (reading_stays old_filled (barred more) test)
 
--- the count is what another row tells of the same pans
+-- the same by another row of the same pans
 pub reading_same :
     {old : ℕ} {ws as' : List ℕ} {most x i left count count' pans : ℕ} → Reading old ws as' most x i left count pans → Least old (drop i ws) (drop i as') left count' →
     Reading old ws as' most x i left count' pans
 reading_same h l =
     record { least = l; some = omega (arith, least_one l h.least h.some, h.some); within = h.within; reach = h.reach; small = h.small; goes = h.goes }
 
--- two pans are read beside the row of the pans behind them
+-- two pans are read, by the row of the pans behind them
 module _
     {old : ℕ} {ws as' : List ℕ} {most pad wide x pair row : ℕ} {bytes : List ℕ} (paired : length as' ≡ length ws) (old_filled : none_old_empty old ws as' ≡ true)
     (rows : Rows old ws as' x most pad wide 0 bytes) (few : pair < pairs_of (length ws)) (place : row ≡ pad + wide * (pairs_of (length ws) - (pair + 1)))
@@ -240,7 +240,7 @@ module _
         let b = rows.row (pair + 1) (omega arith) (omega arith) in
         rw (two, sym place) at b
 
-    -- what the two pans take is there to be taken
+    -- the two pans take no more than is left
     pub reading_left :
         (u v : ℕ) {left count pans : ℕ} {o o' : Bool} → Reading old ws as' most x (2 * pair) left count pans → o ≡ ltb (back (joined (row_at bytes row) v) u left) count →
         o' ≡ cond o (ltb (back (row_at bytes row) (u + v) left) (back (joined (row_at bytes row) v) u left)) (ltb (back (row_at bytes row) v left) count) → cond o u 0 + cond o' v 0 ≤ left
@@ -254,7 +254,7 @@ module _
         at false true e f = omega (arith, back_within (row_at bytes row) v left (omega (arith, ltb-true (back (row_at bytes row) v left) count (sym f), h.some)))
         at false false e f = omega arith
 
-    -- with the number that is read, beside the pans that have to be opened and are not reached yet
+    -- the number that is read so far, with the old pans that are not reached yet
     pub reading_two :
         (left'' : ℕ) {left count pans : ℕ} {o o' : Bool} → Reading old ws as' most x (2 * pair) left count pans →
         o ≡ ltb (back (joined (row_at bytes row) (free_at old ws as' (2 * pair + 1))) (free_at old ws as' (2 * pair)) left) count →
@@ -279,7 +279,7 @@ module _
           old_two old ws as' pair pans o o' paired (marked_once h paired o old_filled first refl is) (marked_once one paired o' old_filled behind refl (is' ∙ beside o is)),
         )
       where
-        -- what the rest takes without the second pan and with it
+        -- how many pans the rest takes without the second pan, and with it
         beside : (o : Bool) → o ≡ ltb (back (joined (row_at bytes row) (free_at old ws as' (2 * pair + 1))) (free_at old ws as' (2 * pair)) left) count → cond o (ltb (back (row_at bytes row) ((free_at old ws as' (2 * pair)) + (free_at old ws as' (2 * pair + 1))) left) (back (joined (row_at bytes row) (free_at old ws as' (2 * pair + 1))) (free_at old ws as' (2 * pair)) left)) (ltb (back (row_at bytes row) (free_at old ws as' (2 * pair + 1)) left) count) ≡ ltb (back (row_at bytes row) (free_at old ws as' (2 * pair + 1)) (left - cond o (free_at old ws as' (2 * pair)) 0)) (cond o (back (joined (row_at bytes row) (free_at old ws as' (2 * pair + 1))) (free_at old ws as' (2 * pair)) left) count)
         beside true is =
             let near = back_within (joined (row_at bytes row) (free_at old ws as' (2 * pair + 1))) (free_at old ws as' (2 * pair)) left (omega (arith, ltb-true (back (joined (row_at bytes row) (free_at old ws as' (2 * pair + 1))) (free_at old ws as' (2 * pair)) left) count (sym is), h.some)) in

@@ -1,4 +1,4 @@
--- One look over the pans for the table, pan by pan: what is seen so far and what is left make up the whole.
+-- The survey of a ring pan by pan: what is seen so far, and what is left, make up the whole.
 use Rattle.std.proofs.Common.{◌≡◌, ℕ, zero, suc, ◌+◌, ◌-◌, ◌*◌, ◌≤◌, min, max, Bool, true, false, cond, ◌&&◌, ◌||◌, ltb, leb, List, [], ◌∷◌, length, get_or, arith}
 use mathlib.Core.Bool.{and_assoc}
 use Rattle.choices.specs.declared.rule.Rule.{Rule}
@@ -6,7 +6,7 @@ use Rattle.table.specs.Pans.{old_weight_of, old_count_of, free_weight, free_at, 
 use Rattle.table.specs.Surveyed.{Surveyed}
 use Rattle.table.specs.declared.survey.Survey.{Survey}
 
--- the pans in ws' and as' are left
+-- the pans with the weights ws' and the ages as' are left
 pub record Surveying (old : ℕ) (ws as'' ws' as' : List ℕ) (s : Survey) : Type 0 where
   pub paired : length as' ≡ length ws'
   pub each : (i : ℕ) → get_or ws' i 0 ≤ 1000000

@@ -1,5 +1,5 @@
 -- What a look over a ring has to tell of its table. Assumes nothing: these are definitions.
---   Surveyed       what the pans are, as one look over them counts and weighs them
+--   Surveyed   s adds up the old and the free pans, and no sum is too large
 use Rattle.std.specs.Prelude.{◌≡◌, ℕ, ◌+◌, ◌≤◌, List}
 use Rattle.table.specs.Pans.{old_weight_of, old_count_of, free_weight, heaviest, none_old_empty}
 use Rattle.table.specs.declared.survey.Survey.{Survey}

@@ -1,21 +1,25 @@
-// What one look over a ring tells of its table.
+// What one look over a ring tells of its old and its free pans.
 ghost use Rattle.std.specs.Prelude.{◌≡◌, ◌+◌, ◌-◌, ◌^◌, ◌<◌, min, max, cond, ◌&&◌, ◌||◌, nat_le};
 
 use choices::Rule;
 
-// What the pans weigh that have to be opened, and how many they are; what the others weigh, and the heaviest of them; and
-// whether no pan that has to be opened is empty.
+/// What the old and the free pans of a ring add up to.
 #[derive(Clone, Copy)]
 pub struct Survey {
+    /// What the old pans weigh together.
     pub old_weight: u32,
+    /// How many pans are old.
     pub old_count: u32,
+    /// What the free pans, which are all others, weigh together.
     pub free: u32,
+    /// What the heaviest free pan weighs, or 0 where there is none.
     pub heaviest: u32,
+    /// Whether no old pan is empty.
     pub old_filled: bool,
 }
 
 impl Survey {
-    // Not what a `Default` would give: where there are no pans, none that has to be opened is empty.
+    /// The survey of no pans. It is no `Default`: no old pan is empty.
     pub const NOTHING: Survey = Survey {
         old_weight: 0,
         old_count: 0,
@@ -24,7 +28,7 @@ impl Survey {
         old_filled: true,
     };
 
-    // The survey with one pan more. Without a branch, so that a loop over pans can take several at once.
+    /// The survey with one more pan, which is old unless it is `young`.
     pub fn with(self, weight: u32, young: bool) -> Survey
         requires { (self.old_weight + weight < 2 ^ 32) × ((self.free + weight < 2 ^ 32) × (self.old_count + 1 < 2 ^ 32)) }
         ensures old_weight { result.old_weight ≡ self.old_weight + cond young 0 weight }
@@ -33,6 +37,7 @@ impl Survey {
         ensures heavy { result.heaviest ≡ max (cond young weight 0) self.heaviest }
         ensures old_filled { result.old_filled ≡ (self.old_filled && (young || nat_le 1 weight)) }
     {
+        // No branch, so that a loop over pans is compiled to work on several at once.
         let free = if young { weight } else { 0 };
         Survey {
             old_weight: self.old_weight + (weight - free),
@@ -43,7 +48,7 @@ impl Survey {
         }
     }
 
-    // Whether the pans that have to be opened leave a bag possible: none of them is empty, and they are neither too many nor too heavy.
+    /// Whether the old pans leave a bag possible: none is empty, and they are neither too many nor too heavy for `rule`.
     pub fn leaves_a_bag(self, rule: Rule) -> bool
         requires { rule.target + rule.above < 2 ^ 32 }
         ensures { result ≡ (self.old_filled && (nat_le self.old_count rule.pans && nat_le self.old_weight (rule.target + rule.above))) }
@@ -53,12 +58,14 @@ impl Survey {
             && self.old_weight <= rule.target + rule.above
     }
 
-    // Whether four free pans can weigh so much that they may make up the target. Only the time depends on it, so it promises nothing.
+    /// Whether four free pans may be heavy enough to reach the target together with the old pans.
+    ///
+    /// Only the time depends on the answer, so nothing is promised of it.
     pub fn few_may_do(self, rule: Rule) -> bool {
         rule.target.saturating_sub(self.old_weight) / 4 <= self.heaviest
     }
 
-    // The most that the free pans of a bag may weigh.
+    /// The most that the free pans of a bag by `rule` may weigh.
     pub fn span(self, rule: Rule) -> usize
         requires { rule.target + rule.above < 2 ^ 32 }
         ensures { result ≡ min (rule.target + rule.above - self.old_weight) self.free }

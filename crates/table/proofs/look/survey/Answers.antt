@@ -1,4 +1,4 @@
--- What is left of the proof of the look over the pans.
+-- What is left of the proof of the survey.
 use Rattle.std.proofs.Common.{arith}
 use Rattle.std.proofs.lemmas.List.{drop_more}
 use Rattle.table.proofs.Surveying.{surveying_next}

@@ -1,4 +1,4 @@
--- What is left of the proof of the number of the pans that have to be opened.
+-- What is left of the proof of the number of the old pans.
 use Rattle.std.proofs.Common.{sym, ◌∙◌}
 use Rattle.table.proofs.OldNumber.{none_old}
 use Rattle.table.proofs.pans.old_number.Goals as goal
