@@ -7,8 +7,8 @@
 --   Makes          cs opens every old pan and no empty one, and weighs x more than the old pans
 --   Least          k is the least number of pans besides the old ones in such a choice; 255: there is none
 --   Row            the row holds the least number for each weight from `from` to `most`
---   Rows           for each i from `first` on, the row of the pans from 2 * i on stands in the bytes with its pad, behind the
---                  rows of fewer pans. It is right from the least weight that, with all free pans before, still reaches `from`
+--   Rows           for each i from `first` on, the row of the pans from 2 * i on stands in the bytes with its pad, behind
+--                  those of fewer pans. It is right from the least weight that with all free pans before reaches `from`
 --   Reaches        two pans side by side reach back no further than the pad, or the pad is as long as a row
 --   First          of the choices that weigh x more than the old pans, the one of the fewest pans that opens the first pan
 --                  that differs

@@ -20,8 +20,8 @@ fn start_row(row: &mut [u8], pad: usize)
     row[pad] = 0;
 }
 
-// Writes the row with two pans more behind the row without them: joins the blocks from `low` up to `high`. From `high` on the
-// row is 255, since all its pans together weigh less.
+// Writes the row with two pans more behind the row without them, and joins the blocks from `low` up to `high`. From `high`
+// on the row is 255, since all its pans together weigh less.
 fn add_pair(
     room: &mut [u8],
     never: [u8; BLOCK],
