@@ -1,8 +1,8 @@
--- The ways of a ring's pans by its rule, and what a place says of its choice. Assumes nothing: these are definitions.
---   way          a pan may be opened where something lies in it, and may stay shut while it has waited less than the age
+-- The ways of a ring's pans, and what a place tells of its choice. Assumes nothing: these are definitions.
+--   way          a pan may be opened where something lies in it, and is young where it has waited fewer bags than `old`
 --   ways         the ways of all pans
 --   neither      the way of a pan that is not there
---   Says         the number and the weight that a place stands for, whatever choice of the pans has that place
+--   Says         each choice of the pans that has place x has the number and the weight of the bag r
 use Rattle.std.specs.Prelude.{◌≡◌, ℕ, false, List, [], ◌∷◌, length, nat_le, nat_lt}
 use Rattle.choices.specs.Choice.{Choice, weight_of}
 use Rattle.choices.specs.Numbered.{number_of}
