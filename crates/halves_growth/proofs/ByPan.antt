@@ -1,4 +1,4 @@
--- A part of the pans grows by one pan, from the last pan to the first.
+-- A part of the pans takes in one more pan, from the last pan to the first.
 use Rattle.std.proofs.Common.{◌≡◌, ℕ, zero, suc, ◌+◌, ◌-◌, ◌*◌, ◌^◌, ◌<◌, ◌≤◌, true, false, ◌⊎◌, List, [], ◌∷◌, length, get_or, drop, sym, refl, ap, ◌∙◌, inl, inr, arith, pow_mono}
 use native.Mathlib.Nat.{pow-succ'}
 use Rattle.std.proofs.lemmas.Bool.{and_parts, and_from, both_ways}
@@ -12,7 +12,7 @@ use Rattle.halves_places.specs.declared.pans.Pans.{Pans}
 use Rattle.halves_places.specs.declared.way.Way.{Way}
 use Rattle.halves_places.proofs.Places.{length_by_ways, pow_more, place_below}
 
--- no pan yet: one choice, that of no pans
+-- no pan yet: the one choice of no pans
 none_of : (b r to : ℕ) (es : List ℕ) → get_or es 0 0 ≡ r → Part b r to [] [] es 1
 none_of b r to es e =
     record {

@@ -1,4 +1,4 @@
--- One pan more in a part of the pans: both ways in one merge, or one way alone.
+-- One more pan: shut and opened in one merge, or just one of them.
 use Rattle.std.proofs.Common.{◌≡◌, ℕ, ◌+◌, ◌<◌, true, false, List, get_or, sym, inl, inr, ⊎_elim, arith}
 use Rattle.std.proofs.lemmas.Bool.{cases_lt, both_ways}
 use Rattle.halves_growth.specs.Entries.{Rises, Below, Merged, Grown, Opening}
