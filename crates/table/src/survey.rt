@@ -1,5 +1,5 @@
 // What one look over a ring tells of its old and its free pans.
-ghost use Rattle.std.specs.Prelude.{◌≡◌, ◌+◌, ◌-◌, ◌^◌, ◌<◌, min, max, cond, ◌&&◌, ◌||◌, nat_le};
+ghost use Rattle.std.specs.Prelude.{◌≡◌, ◌+◌, ◌-◌, ◌/◌, ◌^◌, ◌<◌, min, max, cond, ◌&&◌, ◌||◌, nat_le};
 
 use choices::Rule;
 
@@ -60,8 +60,10 @@ impl Survey {
 
     /// Whether four free pans may be heavy enough to reach the target together with the old pans.
     ///
-    /// Only the time depends on the answer, so nothing is promised of it.
-    pub fn few_may_do(self, rule: Rule) -> bool {
+    /// Only the time that `best` takes depends on it.
+    pub fn few_may_do(self, rule: Rule) -> bool
+        ensures { result ≡ nat_le ((rule.target - self.old_weight) / 4) self.heaviest }
+    {
         rule.target.saturating_sub(self.old_weight) / 4 <= self.heaviest
     }
 
