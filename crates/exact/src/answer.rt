@@ -1,4 +1,4 @@
-// The best bag of a ring, where it weighs exactly the target.
+//! The best bag of a ring, where it weighs exactly the target.
 ghost use Rattle.std.specs.Prelude.{length};
 ghost use Rattle.exact.specs.Answers.{Answers};
 

@@ -1,4 +1,4 @@
-// The choice of the fewest pans that weighs exactly so much, of at most four pans.
+//! The choice of the fewest pans that weighs exactly so much, of at most four pans.
 ghost use Rattle.std.specs.Prelude.{ℕ, ◌+◌, ◌<◌, ◌≤◌, length, slice_index, EachIndex};
 ghost use Rattle.exact.specs.Few.{Chosen};
 
@@ -8,8 +8,8 @@ use crate::tables::{fill_ones, fill_pairs};
 /// The choice of the fewest pans that weighs exactly `weight`, of at most `most` pans and never more than four.
 ///
 /// Of choices of as many pans it is the one that opens the first pan that differs; bit `i` of the answer is pan `i`.
-/// `free` holds at most 24 weights of 1 to 2,000,000. `ones` and `pairs` have at least `weight` + 2 bytes and may hold
-/// anything; their contents are unspecified afterwards.
+/// `free` is what `free_weights` writes. `ones` and `pairs` have at least `weight` + 2 bytes and may hold anything; their
+/// contents are unspecified afterwards.
 pub fn few(free: &[u32], weight: u32, most: u32, ones: &mut [u8], pairs: &mut [u8]) -> Option<u32>
     requires few { length free.now ≤ 24 }
     requires some { EachIndex free.now (λ i. 1 ≤ slice_index free.now i) }

@@ -1,4 +1,4 @@
-// The free pans of a ring: neither old nor empty, so that they may be opened or stay shut.
+//! The free pans of a ring: neither old nor empty, so that they may be opened or stay shut.
 ghost use Rattle.std.specs.Prelude.{◌≡◌, ℕ, ◌<◌, ◌≤◌, ◌⊎◌, length, slice_index};
 ghost use Rattle.exact.specs.Pans.{free_of, if_free};
 
@@ -14,7 +14,7 @@ fn weight_if_free(young: bool, weight: u32) -> u32
     if young && weight >= 1 { weight } else { BARRED }
 }
 
-/// Writes the weight of each free pan of a ring, and 2,000,000 for each old or empty one, so that these are never opened.
+/// Writes the weight of each free pan of a ring, and more than any target for each old or empty one: so these stay shut.
 ///
 /// `free` has as many places as the ring has pans.
 pub fn free_weights(ring: Ring, free: &mut [u32])

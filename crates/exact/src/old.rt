@@ -1,4 +1,4 @@
-// The old pans of a ring.
+//! The old pans of a ring.
 ghost use Rattle.exact.specs.Old.{OldPansOf};
 
 use choices::Ring;

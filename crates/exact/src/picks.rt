@@ -1,5 +1,5 @@
-// The choices of one, two, three or four pans that weigh exactly so much, as numbers: bit i is pan i. Of several choices the
-// one is answered that opens the first pan that differs. `ones` and `pairs` are the tables of tables.rt.
+//! The choices of one, two, three or four pans that weigh exactly so much, as numbers: bit i is pan i. Of several choices
+//! the one is answered that opens the first pan that differs. `ones` and `pairs` are the tables of tables.rt.
 ghost use Rattle.std.specs.Prelude.{◌≡◌, ℕ, ◌+◌, ◌*◌, ◌^◌, ◌<◌, ◌≤◌, length};
 ghost use Rattle.exact.specs.Few.{Leads, Picks, Tells};
 

@@ -1,9 +1,9 @@
-// Two tables in a lent room, of one pan and of two: byte x tells how few of the last pans are enough for one pan, or two, of
-// them to weigh exactly x. It is 255 where none do, and the last byte collects what is too heavy.
+//! Two tables in a lent room, of one pan and of two: byte x tells how few of the last pans are enough for one pan, or two,
+//! of them to weigh exactly x. It is 255 where none do, and the last byte collects what is too heavy.
 ghost use Rattle.std.specs.Prelude.{◌≡◌, ℕ, ◌+◌, ◌<◌, ◌≤◌, length, slice_index, EachIndex};
 ghost use Rattle.exact.specs.Few.{Marked, Sums, Tells};
 
-/// Fills the table of single pans, for at most 24 pans of weight 1 or more.
+/// Fills the table of single pans of `free`, which is what `free_weights` writes.
 pub fn fill_ones(free: &[u32], ones: &mut [u8])
     requires few { length free.now ≤ 24 }
     requires some { EachIndex free.now (λ i. 1 ≤ slice_index free.now i) }
@@ -31,7 +31,7 @@ fn mark(first: u32, behind: &[u32], byte: u8, pairs: &mut [u8])
     }
 }
 
-/// Fills the table of pairs of pans, for at most 24 pans of weights 1 to 2,000,000.
+/// Fills the table of pairs of pans of `free`, which is what `free_weights` writes.
 pub fn fill_pairs(free: &[u32], pairs: &mut [u8])
     requires few { length free.now ≤ 24 }
     requires some { EachIndex free.now (λ i. 1 ≤ slice_index free.now i) }

@@ -1,4 +1,4 @@
-// What a merge has to do.
+//! What a merge has to do.
 ghost use Rattle.std.specs.Prelude.{◌^◌, ◌<◌, ◌≤◌};
 
 /// A merge of the first `kept` entries with copies of the first `added` of them, raised by `gain`.

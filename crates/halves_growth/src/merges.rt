@@ -1,4 +1,4 @@
-// Entries merged with raised copies of some of them, in place and from the back.
+//! Entries merged with raised copies of some of them, in place and from the back.
 ghost use Rattle.std.specs.Prelude.{◌≡◌, ℕ, ◌+◌, ◌^◌, ◌<◌, ◌≤◌, ◌⊎◌, length, slice_index};
 ghost use Rattle.halves_growth.specs.Entries.{Merged, Sorted};
 

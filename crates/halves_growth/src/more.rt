@@ -1,4 +1,4 @@
-// One more pan in a sorted list of places.
+//! One more pan in a sorted list of places.
 ghost use Rattle.std.specs.Prelude.{◌≡◌, ℕ, ◌+◌, ◌^◌, ◌<◌, ◌≤◌, length, slice_index};
 ghost use Rattle.halves_growth.specs.Entries.{Below, Grown, Opening, Rises, Sorted};
 

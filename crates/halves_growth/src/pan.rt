@@ -1,4 +1,4 @@
-// A pan, as a list of places takes it in.
+//! A pan, as a list of places takes it in.
 ghost use Rattle.std.specs.Prelude.{◌≡◌, ◌+◌, ◌*◌, ◌^◌, ◌<◌, length, slice_index, slice_index_or};
 ghost use Rattle.halves_places.specs.declared.way.Way.{Way};
 

@@ -1,4 +1,4 @@
-// A part of the pans: the places of all its choices, sorted.
+//! A part of the pans: the places of all its choices, sorted.
 ghost use Rattle.std.specs.Prelude.{◌≡◌, ℕ, ◌+◌, ◌-◌, ◌*◌, ◌^◌, ◌<◌, ◌≤◌, length};
 ghost use Rattle.halves_growth.specs.Part.{Part};
 

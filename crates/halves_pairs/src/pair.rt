@@ -1,4 +1,4 @@
-// Two parts of the pans grown in one loop, so that the processor works on both merges at once.
+//! Two parts of the pans grown in one loop, so that the processor works on both merges at once.
 ghost use Rattle.std.specs.Prelude.{◌≡◌, ℕ, ◌+◌, ◌^◌, ◌≤◌, length};
 ghost use Rattle.halves_growth.specs.Entries.{Grown, Merged, Sorted};
 ghost use Rattle.halves_growth.specs.Part.{Part};

@@ -1,4 +1,4 @@
-// How many entries two parts of the pans have.
+//! How many entries two parts of the pans have.
 
 /// How many entries two parts have, each at the front of its room.
 #[derive(Clone, Copy)]

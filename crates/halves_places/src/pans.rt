@@ -1,4 +1,4 @@
-// Pans, with what may be done with each.
+//! Pans, with what may be done with each.
 ghost use Rattle.std.specs.Prelude.{◌≡◌, ℕ, ◌≤◌, length, take, drop, slice_index};
 
 use crate::way::Way;

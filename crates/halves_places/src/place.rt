@@ -1,4 +1,4 @@
-// What a place tells of its choice.
+//! What a place tells of its choice.
 ghost use Rattle.std.specs.Prelude.{◌≡◌, ◌/◌, ◌^◌, ◌<◌};
 ghost use Rattle.halves_places.specs.Place.{pans_in};
 ghost use Rattle.halves_places.specs.Ring.{Says};

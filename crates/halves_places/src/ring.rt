@@ -1,4 +1,4 @@
-// What may be done with the pans of a ring.
+//! What may be done with the pans of a ring.
 ghost use Rattle.halves_places.specs.Ring.{neither, way as way_by, ways as ways_by};
 ghost use Rattle.halves_places.specs.declared.way.Way.{Way};
 ghost use Rattle.std.specs.Prelude.{◌≡◌, ℕ, ◌<◌, ◌≤◌, length, slice_index, slice_index_or, take};

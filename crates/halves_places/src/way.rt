@@ -1,4 +1,4 @@
-// What may be done with a pan.
+//! What may be done with a pan.
 
 /// What may be done with a pan. All four cases occur.
 #[derive(Clone, Copy)]

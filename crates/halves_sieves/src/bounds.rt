@@ -1,4 +1,4 @@
-// What a choice has to keep to be wanted.
+//! What a choice has to keep to be wanted.
 ghost use Rattle.std.specs.Prelude.{◌^◌, ◌<◌};
 
 /// What a choice of all pans has to keep; what no such choice needs may be left out of the lists.

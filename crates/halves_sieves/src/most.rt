@@ -1,4 +1,4 @@
-// The most that so many of some pans weigh together.
+//! The most that so many of some pans weigh together.
 ghost use Rattle.std.specs.Prelude.{◌≡◌, ℕ, ◌+◌, ◌*◌, ◌^◌, ◌<◌, ◌≤◌, max, List, ◌++◌, length, slice_index};
 ghost use Rattle.halves_sieves.specs.Sieve.{Most};
 

@@ -1,4 +1,4 @@
-// Entries that are worth keeping move to the front.
+//! Entries that are worth keeping move to the front.
 ghost use Rattle.std.specs.Prelude.{◌≡◌, ◌+◌, ◌≤◌, length};
 ghost use Rattle.halves_growth.specs.Entries.{Rises};
 ghost use Rattle.halves_sieves.specs.Sieve.{Sieved, Thinned};

@@ -1,4 +1,4 @@
-// Some pans of a ring that stand side by side.
+//! Some pans of a ring that stand side by side.
 ghost use Rattle.std.specs.Prelude.{◌+◌, ◌≤◌, length};
 
 use halves_places::Pans;

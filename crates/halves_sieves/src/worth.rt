@@ -1,4 +1,4 @@
-// Which entries of a part of the pans are worth keeping.
+//! Which entries of a part of the pans are worth keeping.
 ghost use Rattle.std.specs.Prelude.{◌≡◌, ℕ, ◌-◌, ◌*◌, ◌^◌, ◌<◌, ◌≤◌, slice_index};
 ghost use Rattle.halves_sieves.specs.Sieve.{Short};
 

@@ -1,4 +1,4 @@
-// Which pairs a sweep looks at, by how many pans they open.
+//! Which pairs a sweep looks at, by how many pans they open.
 
 /// The pairs whose entries open `count` pans in the back list, and at most `rest` pans in the front list.
 #[derive(Clone, Copy)]

@@ -1,4 +1,4 @@
-// Sweeps that look at how many pans are opened.
+//! Sweeps that look at how many pans are opened.
 ghost use Rattle.std.specs.Prelude.{ℕ, ◌+◌, ◌<◌, ◌≤◌, length};
 ghost use Rattle.halves_sweeps.specs.Sweep.{Few, LeastOf, LeastSum, Meets, Together};
 

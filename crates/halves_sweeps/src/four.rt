@@ -1,4 +1,4 @@
-// Four sweeps in one loop, so that the processor works on all at once. Each goes up the back list and down the front list.
+//! Four sweeps in one loop, so that the processor works on all at once. Each goes up the back list and down the front list.
 ghost use Rattle.std.specs.Prelude.{◌≡◌, ℕ, ◌+◌, ◌-◌, ◌<◌, ◌≤◌, ◌⊎◌, length, slice_index};
 ghost use Rattle.std.specs.List.{All};
 ghost use Rattle.halves_sweeps.specs.Lane.{Free, Fresh, Strides, Strode, Swept};

@@ -1,4 +1,4 @@
-// How far a sweep over two lists has come.
+//! How far a sweep over two lists has come.
 
 /// A sweep for the least sum from `from` on and below `to`. An entry is settled once all its sums are known to be no better.
 #[derive(Clone, Copy)]

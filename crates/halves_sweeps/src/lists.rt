@@ -1,4 +1,4 @@
-// The two lists of a sweep.
+//! The two lists of a sweep.
 ghost use Rattle.std.specs.Prelude.{ℕ, ◌^◌, ◌<◌, length, slice_index};
 ghost use Rattle.halves_growth.specs.Entries.{Rises};
 

@@ -1,5 +1,5 @@
-// The least sum of a top and an entry of each list that opens few enough pans. Where there is none, `to` is answered: the
-// minimum starts from it, and an `Option` would be tested at each step.
+//! The least sum of a top and an entry of each list that opens few enough pans. Where there is none, `to` is answered: the
+//! minimum starts from it, and an `Option` would be tested at each step.
 ghost use Rattle.std.specs.Prelude.{ℕ, ◌^◌, ◌<◌, ◌≤◌, length, slice_index};
 ghost use Rattle.halves_sweeps.specs.Sweep.{Apart, LeastOf, Together, Whatever};
 

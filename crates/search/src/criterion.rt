@@ -1,4 +1,4 @@
-// What can be searched: numbered candidates, some of them allowed, in an order.
+//! What can be searched: numbered candidates, some of them allowed, in an order.
 ghost use Rattle.std.specs.Prelude.{◌≡◌, ℕ, ◌+◌, ◌<◌, ◌≤◌, Bool};
 ghost use Rattle.search.specs.Sought.{Behind, Passes};
 ghost use Rattle.std.specs.Cmp.{IsStrictWeakOrder};

@@ -1,4 +1,4 @@
-// The search of a ring: its candidates are the choices of its pans, and those that fit its rule are allowed.
+//! The search of a ring: its candidates are the choices of its pans, and those that fit its rule are allowed.
 ghost use Rattle.std.specs.Prelude.{◌≡◌, ℕ, ◌+◌, ◌%◌, ◌^◌, ◌<◌, ◌≤◌, true, length};
 ghost use Rattle.choices.specs.Choice.{fits as fits_rule};
 ghost use Rattle.choices.specs.Numbered.{choice_of};

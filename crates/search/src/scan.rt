@@ -1,4 +1,4 @@
-// The scan: a loop over the candidates of a criterion that keeps the best found so far.
+//! The scan: a loop over the candidates of a criterion that keeps the best found so far.
 ghost use Rattle.std.specs.Prelude.{◌≡◌, ℕ, ◌+◌, ◌<◌, ◌≤◌, min};
 ghost use Rattle.search.specs.Sought.{Sought};
 

@@ -1,4 +1,4 @@
-// Tallies of parts of a ring's choices, made once, so that the tally of any choice takes three additions.
+//! Tallies of parts of a ring's choices, made once, so that the tally of any choice takes three additions.
 ghost use Rattle.std.specs.Prelude.{◌≡◌, ℕ, ◌^◌, ◌<◌, length, slice_index_or};
 ghost use Rattle.choices.specs.Choice.{opened, weight_of};
 ghost use Rattle.choices.specs.Numbered.{choice_of};

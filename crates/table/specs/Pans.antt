@@ -8,7 +8,7 @@
 --   heaviest         what the heaviest free pan weighs
 --   none_old_empty   no old pan is empty
 --   span_of          the most that the free pans of a bag may weigh: all of them, or what is left up to target + above
---   pairs_of         how many twos so many pans make; the last pan may be alone in its two
+--   pairs_of         how many pairs so many pans make; where their number is odd, the last pair has one pan
 --   width_of         the bytes of whole blocks of 64 that hold a byte for each weight from 0 to `most`
 --   pad_of           the bytes of 255 in front of a row: as far as two pans can reach back, or its width if that is less
 --   row_bytes        the bytes of a row with its pad

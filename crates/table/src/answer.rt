@@ -1,4 +1,4 @@
-// The best bag of a ring, found in its table.
+//! The best bag of a ring, found in its table.
 ghost use Rattle.std.specs.Prelude.{◌≡◌, ◌+◌, ◌*◌, ◌≤◌, ◌&&◌, true, length, nat_le};
 ghost use Rattle.choices.specs.Choice.{fits};
 ghost use Rattle.order.specs.Order.{Found};

@@ -1,4 +1,4 @@
-// Rows are written in blocks of bytes, so that the processor can work on many bytes at once.
+//! Rows are written in blocks of bytes, so that the processor can work on many bytes at once.
 ghost use Rattle.std.specs.Prelude.{◌≡◌, ℕ, ◌+◌, ◌-◌, ◌*◌, ◌<◌, ◌≤◌, min, length, slice_index};
 ghost use Rattle.table.specs.Rows.{joined, row_at};
 

@@ -1,4 +1,4 @@
-// One look over a ring's pans, and the room that its table takes.
+//! One look over a ring's pans, and the room that its table takes.
 ghost use Rattle.table.specs.Pans.{most_bytes, table_bytes};
 ghost use Rattle.table.specs.Surveyed.{Surveyed};
 ghost use Rattle.std.specs.Prelude.{◌≡◌, ◌≤◌, length};

@@ -1,4 +1,4 @@
-// What the pans of a ring are to the rows.
+//! What the pans of a ring are to the rows.
 ghost use Rattle.choices.specs.Numbered.{number_of};
 ghost use Rattle.exact.specs.Pans.{only_old};
 ghost use Rattle.table.specs.Pans.{old_count_of, free_at, pairs_of};
@@ -6,7 +6,7 @@ ghost use Rattle.std.specs.Prelude.{◌≡◌, ℕ, ◌<◌, length, slice_index
 
 use choices::Ring;
 
-/// How many twos the pans of a ring make; the last pan may be alone in its two.
+/// How many pairs the rows take the pans of a ring in; where their number is odd, the last pair has one pan.
 pub fn pairs(ring: Ring) -> usize
     ensures { result ≡ pairs_of (length ring.entry.weights.now) }
 {

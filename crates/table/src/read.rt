@@ -1,4 +1,4 @@
-// A ring's table in a lent room, and how a bag is read off it: first its weight, then its pans from pan 0 on.
+//! A ring's table in a lent room, and how a bag is read off it: first its weight, then its pans from pan 0 on.
 ghost use Rattle.std.specs.Prelude.{◌≡◌, ℕ, ◌+◌, ◌-◌, ◌*◌, ◌^◌, ◌<◌, ◌≤◌, true, cond, length, slice_index};
 ghost use Rattle.choices.specs.Choice.{bit};
 ghost use Rattle.choices.specs.Numbered.{number_of};

@@ -1,4 +1,4 @@
-// The rows of the table: for each weight the least number of free pans that weigh exactly so much.
+//! The rows of the table: for each weight the least number of free pans that weigh exactly so much.
 ghost use Rattle.std.specs.Prelude.{◌≡◌, ℕ, ◌+◌, ◌-◌, ◌*◌, ◌<◌, ◌≤◌, true, ◌≢◌, length, slice_index};
 ghost use Rattle.table.specs.Pans.{free_at, none_old_empty, pairs_of};
 ghost use Rattle.table.specs.Rows.{Reaches, Rows, joined, row_at};

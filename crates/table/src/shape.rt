@@ -1,4 +1,4 @@
-// How a row lies in the room of a table.
+//! How a row lies in the room of a table.
 ghost use Rattle.std.specs.Prelude.{◌≡◌, ◌+◌, ◌*◌, ◌/◌, ◌≤◌};
 ghost use Rattle.table.specs.Pans.{pad_of, row_bytes, width_of};
 
@@ -20,7 +20,7 @@ pub struct Shape {
     ghost small: { blocks ≤ 40000 },
 }
 
-/// The bytes of whole blocks that hold a byte for each weight from 0 to `span`, which is at most 2,000,000.
+/// The bytes of whole blocks that hold a byte for each weight from 0 to `span`, at most a ring's target + above.
 pub fn width_of(span: usize) -> usize
     requires { span ≤ 2000000 }
     ensures { result ≡ width_of span }
@@ -31,7 +31,7 @@ pub fn width_of(span: usize) -> usize
 impl Shape {
     /// The shape of rows for weights from 0 to `span`, of free pans that weigh at most `heaviest`.
     ///
-    /// `span` is at most 2,000,000 and `heaviest` at most 1,000,000.
+    /// `span` is at most a ring's target + above, and `heaviest` at most 1,000,000.
     ///
     /// The pad is as long as two pans can reach back, or as the blocks of a row if these are fewer.
     pub fn of(span: usize, heaviest: usize) -> Shape

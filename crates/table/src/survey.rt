@@ -1,4 +1,4 @@
-// What one look over a ring tells of its old and its free pans.
+//! What one look over a ring tells of its old and its free pans.
 ghost use Rattle.std.specs.Prelude.{◌≡◌, ◌+◌, ◌-◌, ◌/◌, ◌^◌, ◌<◌, min, max, cond, ◌&&◌, ◌||◌, nat_le};
 
 use choices::Rule;
