@@ -12,7 +12,7 @@ pub record Fitting (r : Rule) (ws as' : List ℕ) (cs : Choice) : Type 0 where
   pub within : weight_of ws cs ≤ r.target + r.above
   pub few : opened cs ≤ r.pans
   pub filled : none_empty ws cs ≡ true
-  pub waited : keeps_old r.age as' cs ≡ true
+  pub old_opened : keeps_old r.age as' cs ≡ true
 
 pub fitting : (r : Rule) (ws as' : List ℕ) (cs : Choice) → fits r ws as' cs ≡ true → Fitting r ws as' cs
 unfolding fits
@@ -28,13 +28,13 @@ fitting r ws as' cs h =
       within = leb-true _ _ d.0;
       few = leb-true _ _ e.0;
       filled = f.0;
-      waited = f.1;
+      old_opened = f.1;
     }
 
 pub fits_from : (r : Rule) (ws as' : List ℕ) (cs : Choice) → Fitting r ws as' cs → fits r ws as' cs ≡ true
 unfolding fits
 fits_from r ws as' cs h =
-    and_from _ _ (eq-eqb _ _ h.whole) (and_from _ _ (le-leb _ _ h.enough) (and_from _ _ (le-leb _ _ h.within) (and_from _ _ (le-leb _ _ h.few) (and_from _ _ h.filled h.waited))))
+    and_from _ _ (eq-eqb _ _ h.whole) (and_from _ _ (le-leb _ _ h.enough) (and_from _ _ (le-leb _ _ h.within) (and_from _ _ (le-leb _ _ h.few) (and_from _ _ h.filled h.old_opened))))
 
 pub opened_le : (cs : Choice) → opened cs ≤ length cs
 opened_le [] = omega arith
@@ -65,7 +65,7 @@ opens_some ws cs some = at (opened cs) refl
 -- what fits a rule opens no empty pan and every old one, and is not too heavy
 pub fits_allowed : (r : Rule) (s : Stand) (cs : Choice) → by_rule r s cs ≡ true → Allowed r.age r.target (r.target + r.above) s cs
 fits_allowed r s cs h =
-    let f = fitting r s.weights s.ages cs h in record { whole = f.whole; filled = f.filled; old = f.waited; enough = f.enough; within = f.within }
+    let f = fitting r s.weights s.ages cs h in record { whole = f.whole; filled = f.filled; old = f.old_opened; enough = f.enough; within = f.within }
 
 -- where something is wanted, what fits opens a pan
 pub fits_opens : (r : Rule) (s : Stand) (cs : Choice) → 1 ≤ r.target → by_rule r s cs ≡ true → 1 ≤ opened cs

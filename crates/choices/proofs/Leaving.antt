@@ -69,5 +69,5 @@ looser_fits {r} {q} s cs l h =
       within = omega (arith, f.within, l.target, l.above);
       few = omega (arith, f.few, l.pans);
       filled = f.filled;
-      waited = waits_on r.age q.age s.ages cs l.age f.waited;
+      old_opened = waits_on r.age q.age s.ages cs l.age f.old_opened;
     })

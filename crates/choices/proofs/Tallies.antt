@@ -6,7 +6,7 @@ use Rattle.std.proofs.lemmas.Bool.{eq-eqb}
 use Rattle.std.proofs.lemmas.Bool.Decides.{nat_tests}
 use Rattle.choices.specs.Choice.{Choice, bit, weight_of, opened, none_empty, keeps_old, fits}
 use Rattle.choices.specs.Numbered.{choice_of}
-use Rattle.choices.specs.Tallied.{Tallied, Adds, ticked, empty_ones, old_ones, waiting_of, makes_bag}
+use Rattle.choices.specs.Tallied.{Tallied, Adds, ticked, empty_ones, old_ones, old_count_of, makes_bag}
 use Rattle.choices.specs.declared.rule.Rule.{Rule}
 use Rattle.choices.specs.declared.tally.Tally.{Tally}
 use Rattle.choices.proofs.Blocks.{sum_apart}
@@ -24,25 +24,25 @@ none_empty_is (w ∷ ws) (true ∷ cs) = rw (none_empty_is ws cs) (at (eqb w 0) 
     at false e = grind (arith, nat_tests)
 none_empty_is (w ∷ ws) (false ∷ cs) = rw (none_empty_is ws cs) (grind (arith, nat_tests))
 
-old_le : (old : ℕ) (as' : List ℕ) (cs : Choice) → weight_of (old_ones old as') cs ≤ waiting_of old as'
+old_le : (old : ℕ) (as' : List ℕ) (cs : Choice) → weight_of (old_ones old as') cs ≤ old_count_of old as'
 old_le old [] cs = omega arith
 old_le old (a ∷ as') [] = omega arith
 old_le old (a ∷ as') (true ∷ cs) = omega (arith, old_le old as' cs)
 old_le old (a ∷ as') (false ∷ cs) = omega (arith, old_le old as' cs)
 
 -- every old pan is opened just where as many are opened as there are
-pub keeps_old_is : (old : ℕ) (as' : List ℕ) (cs : Choice) → length cs ≡ length as' → keeps_old old as' cs ≡ eqb (weight_of (old_ones old as') cs) (waiting_of old as')
+pub keeps_old_is : (old : ℕ) (as' : List ℕ) (cs : Choice) → length cs ≡ length as' → keeps_old old as' cs ≡ eqb (weight_of (old_ones old as') cs) (old_count_of old as')
 keeps_old_is old [] cs e = refl
 keeps_old_is old (a ∷ as') [] e = absurd (omega arith)
 keeps_old_is old (a ∷ as') (true ∷ cs) e = rw (keeps_old_is old as' cs (omega arith)) (grind (arith, nat_tests))
 keeps_old_is old (a ∷ as') (false ∷ cs) e = rw (keeps_old_is old as' cs (omega arith)) (at (leb old a) refl)
   where
-    at : (b : Bool) → leb old a ≡ b → (ltb a old && eqb (weight_of (old_ones old as') cs) (waiting_of old as')) ≡ eqb (0 + weight_of (old_ones old as') cs) (bit b + waiting_of old as')
+    at : (b : Bool) → leb old a ≡ b → (ltb a old && eqb (weight_of (old_ones old as') cs) (old_count_of old as')) ≡ eqb (0 + weight_of (old_ones old as') cs) (bit b + old_count_of old as')
     at true h = grind (arith, nat_tests, old_le old as' cs)
     at false h = grind (arith, nat_tests)
 
 -- where every pan is opened, so are all old ones
-pub all_opened : (old : ℕ) (as' : List ℕ) → weight_of (old_ones old as') (choice_of (length as') (2 ^ length as' - 1)) ≡ waiting_of old as'
+pub all_opened : (old : ℕ) (as' : List ℕ) → weight_of (old_ones old as') (choice_of (length as') (2 ^ length as' - 1)) ≡ old_count_of old as'
 all_opened old [] = refl
 all_opened old (a ∷ as') =
     let n = length as' in
@@ -53,7 +53,7 @@ all_opened old (a ∷ as') =
 -- the test of a rule by a tally
 pub fits_is :
     (r : Rule) (ws as' : List ℕ) (cs : Choice) (t : Tally) → length cs ≡ length ws → length as' ≡ length ws →
-    Tallied ws as' r.age cs t → makes_bag r (waiting_of r.age as') t ≡ fits r ws as' cs
+    Tallied ws as' r.age cs t → makes_bag r (old_count_of r.age as') t ≡ fits r ws as' cs
 unfolding fits
 fits_is r ws as' cs t e p h =
     rw (h.weighs, h.counts, h.empties, h.olds, ← none_empty_is ws cs, ← keeps_old_is r.age as' cs (e ∙ sym p), eq-eqb (length cs) (length ws) e)

@@ -1,8 +1,8 @@
 -- What a look over the pans has to tell of a choice. Assumes nothing: these are definitions.
 --   ticked       for each number whether it passes a test, as 1 or 0
 --   empty_ones   for each pan whether it is empty
---   old_ones     for each pan whether it has waited so many bags, or more
---   waiting_of   how many pans have waited so many bags, or more
+--   old_ones     for each pan whether it is old: it has waited so many bags, or more
+--   old_count_of how many pans are old
 --   Tallied      a tally is that of a choice: each of its numbers adds up over the opened pans
 --   Adds         a tally is two others added up
 --   makes_bag    what a tally has to be for the choice to fit a rule, where so many pans are old
@@ -21,9 +21,9 @@ empty_ones = ticked (λ w. nat_eq w 0)
 abbrev pub old_ones : ℕ → List ℕ → List ℕ
 old_ones old = ticked (λ a. leb old a)
 
-abbrev pub waiting_of : ℕ → List ℕ → ℕ
-waiting_of old [] = 0
-waiting_of old (a ∷ as') = bit (nat_le old a) + waiting_of old as'
+abbrev pub old_count_of : ℕ → List ℕ → ℕ
+old_count_of old [] = 0
+old_count_of old (a ∷ as') = bit (nat_le old a) + old_count_of old as'
 
 pub record Tallied (ws as' : List ℕ) (old : ℕ) (cs : Choice) (t : Tally) : Type 0 where
   pub weighs : t.weight ≡ weight_of ws cs

@@ -5,7 +5,7 @@ ghost use Rattle.choices.specs.Numbered.{choice_of, number_of};
 ghost use Rattle.std.specs.Prelude.{◌≡◌, length};
 
 use crate::ring::Ring;
-use crate::tally::{look, waiting};
+use crate::tally::{look, old_count};
 
 // What the opened pans weigh together.
 pub fn weight(ring: Ring, choice: u32) -> u32
@@ -25,7 +25,7 @@ pub fn count(ring: Ring, choice: u32) -> u32
 pub fn fits(ring: Ring, choice: u32) -> bool
     ensures { result ≡ fits_rule ring.entry.rule ring.entry.weights.now ring.entry.ages.now (choice_of (length ring.entry.weights.now) choice) }
 {
-    look(ring, choice).fits(ring.rule, waiting(ring))
+    look(ring, choice).fits(ring.rule, old_count(ring))
 }
 
 // The number that is answered for a choice: 2 to the power of each opened pan's number, added.

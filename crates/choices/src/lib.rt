@@ -11,4 +11,4 @@ pub use choice::{count, fits, number, weight};
 pub use limits::{LIMIT, PANS, WIDEST};
 pub use ring::Ring;
 pub use rule::Rule;
-pub use tally::{Tally, look, waiting};
+pub use tally::{Tally, look, old_count};

@@ -2,12 +2,12 @@
 ghost use Rattle.std.specs.Prelude.{◌≡◌, ◌+◌, ◌^◌, ◌<◌, ◌≤◌, length, if◌then◌else◌, ◌==◌};
 ghost use Rattle.choices.specs.Choice.{bit};
 ghost use Rattle.choices.specs.Numbered.{choice_of};
-ghost use Rattle.choices.specs.Tallied.{Adds, Tallied, makes_bag, waiting_of};
+ghost use Rattle.choices.specs.Tallied.{Adds, Tallied, makes_bag, old_count_of};
 
 use crate::ring::Ring;
 use crate::rule::Rule;
 
-// What the opened pans weigh, how many they are, how many of them are empty, and how many have waited too long.
+// What the opened pans weigh, how many they are, how many of them are empty, and how many are old.
 #[derive(Clone, Copy, Default)]
 pub struct Tally {
     pub weight: u32,
@@ -30,20 +30,20 @@ impl Tally {
         }
     }
 
-    // The tally with one pan more, of which is known whether it has waited too long and whether it is opened.
-    fn with(self, weight: u32, waited: bool, opened: bool) -> Tally
+    // The tally with one pan more, of which is known whether it is old and whether it is opened.
+    fn with(self, weight: u32, is_old: bool, opened: bool) -> Tally
         requires { (self.weight + weight < 2 ^ 32) × ((self.pans + 1 < 2 ^ 32) × ((self.empty + 1 < 2 ^ 32) × (self.old + 1 < 2 ^ 32))) }
         ensures weighs { result.weight ≡ self.weight + (if opened then weight else 0) }
         ensures counts { result.pans ≡ self.pans + bit opened }
         ensures empties { result.empty ≡ self.empty + (if opened then bit (weight == 0) else 0) }
-        ensures olds { result.old ≡ self.old + (if opened then bit waited else 0) }
+        ensures olds { result.old ≡ self.old + (if opened then bit is_old else 0) }
     {
         let added = if opened {
             Tally {
                 weight,
                 pans: 1,
                 empty: (weight == 0) as u32,
-                old: waited as u32,
+                old: is_old as u32,
             }
         } else {
             Tally::default()
@@ -51,15 +51,15 @@ impl Tally {
         self.and(added)
     }
 
-    // Whether a choice with this tally makes a bag by a rule, where so many pans have waited too long.
-    pub fn fits(self, rule: Rule, waiting: u32) -> bool
+    // Whether a choice with this tally makes a bag by a rule, where `old_count` pans are old.
+    pub fn fits(self, rule: Rule, old_count: u32) -> bool
         requires { rule.target + rule.above < 2 ^ 32 }
-        ensures { result ≡ makes_bag rule waiting self }
+        ensures { result ≡ makes_bag rule old_count self }
     {
         (rule.target <= self.weight)
             & (self.weight <= rule.target + rule.above)
             & (self.pans <= rule.pans)
-            & ((self.empty == 0) & (self.old == waiting))
+            & ((self.empty == 0) & (self.old == old_count))
     }
 }
 
@@ -75,9 +75,9 @@ pub fn look(ring: Ring, choice: u32) -> Tally
     seen
 }
 
-// How many pans have waited too long.
-pub fn waiting(ring: Ring) -> u32
-    ensures { result ≡ waiting_of ring.entry.rule.age ring.entry.ages.now }
+// How many pans are old: their age is the rule's age or more.
+pub fn old_count(ring: Ring) -> u32
+    ensures { result ≡ old_count_of ring.entry.rule.age ring.entry.ages.now }
 {
     let all = (1u32 << ring.weights.len()) - 1;
     look(ring, all).old

@@ -1,4 +1,4 @@
--- Counts tried from none up: the first at which the weight is made is the least.
+-- Counts are tried from 0 up: the first at which some choice weighs exactly so much is the least.
 use Rattle.std.proofs.Common.{◌≡◌, ℕ, ◌+◌, ◌<◌, ◌≤◌, ◌⊎◌, List, Some, None, Option, inl, inr, arith}
 use Rattle.std.proofs.lemmas.Bool.{cases_lt}
 use Rattle.exact.specs.Few.{Never, Picked, Picks, ChosenAt, Chosen}
@@ -23,7 +23,7 @@ chosen_some {k} f low p = record { count = k; within = low; fewer = f.none; pick
 pub chosen_none : {k most x : ℕ} {ws : List ℕ} → Fewer k ws x → most < k → Chosen most ws x None
 chosen_none f high j low few = f.none j (omega arith)
 
--- nothing is to be made
+-- weight 0 takes no pan
 pub chosen_zero : {most x : ℕ} {ws : List ℕ} → x ≡ 0 → ChosenAt most ws x 0
 chosen_zero e = rw e (record { count = 0; within = omega arith; fewer = λ j less cs m. omega arith; picked = picked_none })
 

@@ -1,10 +1,10 @@
--- A choice of free pans joined with the pans that have to be opened, and what is left of a choice without these.
+-- A choice of free pans joined with the old pans, and what is left of a choice without these.
 use Rattle.std.proofs.Common.{◌≡◌, ℕ, zero, suc, ◌+◌, ◌*◌, ◌<◌, ◌≤◌, Bool, true, false, cond, not, ◌&&◌, ◌||◌, ltb, leb, List, [], ◌∷◌, length, get_or, refl, ap, add-mul, mul-le-mul_right, arith}
 use Rattle.std.proofs.lemmas.Bool.{and_parts, and_from, leb-true}
 use Rattle.choices.specs.Choice.{Choice, bit, weight_of, opened, none_empty, keeps_old}
 use Rattle.choices.specs.Numbered.{number_of}
 use Rattle.order.specs.Order.{first_more}
-use Rattle.exact.specs.Pans.{due_of, loose, free_of}
+use Rattle.exact.specs.Pans.{only_old, if_free, free_of}
 use Rattle.exact.specs.Few.{Makes}
 
 -- ---- the weights of free pans
@@ -16,22 +16,22 @@ length_free old (w ∷ ws) (a ∷ as') e = ap suc (length_free old ws as' (omega
 
 pub free_at :
     (old : ℕ) (ws as' : List ℕ) (i : ℕ) → length as' ≡ length ws → i < length ws →
-    get_or (free_of old ws as') i 0 ≡ loose (ltb (get_or as' i 0) old) (get_or ws i 0)
+    get_or (free_of old ws as') i 0 ≡ if_free (ltb (get_or as' i 0) old) (get_or ws i 0)
 free_at old [] as' i e less = absurd (omega arith)
 free_at old (w ∷ ws) [] i e less = absurd (omega arith)
 free_at old (w ∷ ws) (a ∷ as') zero e less = refl
 free_at old (w ∷ ws) (a ∷ as') (suc i) e less = free_at old ws as' i (omega arith) (omega arith)
 
-loose_some : (b : Bool) (w : ℕ) → 1 ≤ loose b w
-loose_some false w = omega arith
-loose_some true w = at (leb 1 w) refl
+if_free_some : (b : Bool) (w : ℕ) → 1 ≤ if_free b w
+if_free_some false w = omega arith
+if_free_some true w = at (leb 1 w) refl
   where
     at : (f : Bool) → leb 1 w ≡ f → 1 ≤ cond f w 26000000
     at true e = leb-true 1 w e
     at false e = omega arith
 
-loose_most : (b : Bool) (w : ℕ) → w ≤ 1000000 → loose b w ≤ 26000000
-loose_most b w h = at (b && leb 1 w)
+if_free_most : (b : Bool) (w : ℕ) → w ≤ 1000000 → if_free b w ≤ 26000000
+if_free_most b w h = at (b && leb 1 w)
   where
     at : (d : Bool) → cond d w 26000000 ≤ 26000000
     at true = omega arith
@@ -39,30 +39,30 @@ loose_most b w h = at (b && leb 1 w)
 
 pub free_some : (old : ℕ) (ws as' : List ℕ) → length as' ≡ length ws → (i : ℕ) → i < length (free_of old ws as') → 1 ≤ get_or (free_of old ws as') i 0
 free_some old ws as' e i less =
-    rw (free_at old ws as' i e (omega (arith, length_free old ws as' e))) (loose_some (ltb (get_or as' i 0) old) (get_or ws i 0))
+    rw (free_at old ws as' i e (omega (arith, length_free old ws as' e))) (if_free_some (ltb (get_or as' i 0) old) (get_or ws i 0))
 
 pub free_most :
     (old : ℕ) (ws as' : List ℕ) → length as' ≡ length ws → ((i : ℕ) → get_or ws i 0 ≤ 1000000) →
     (i : ℕ) → i < length (free_of old ws as') → get_or (free_of old ws as') i 0 ≤ 26000000
 free_most old ws as' e light i less =
-    rw (free_at old ws as' i e (omega (arith, length_free old ws as' e))) (loose_most (ltb (get_or as' i 0) old) (get_or ws i 0) (light i))
+    rw (free_at old ws as' i e (omega (arith, length_free old ws as' e))) (if_free_most (ltb (get_or as' i 0) old) (get_or ws i 0) (light i))
 
--- ---- a choice joined with the pans that have to be opened
+-- ---- a choice joined with the old pans
 
-abbrev pub with_due : ℕ → List ℕ → Choice → Choice
-with_due old [] cs = []
-with_due old (a ∷ as') [] = []
-with_due old (a ∷ as') (c ∷ cs) = (c || not (ltb a old)) ∷ with_due old as' cs
+abbrev pub with_old : ℕ → List ℕ → Choice → Choice
+with_old old [] cs = []
+with_old old (a ∷ as') [] = []
+with_old old (a ∷ as') (c ∷ cs) = (c || not (ltb a old)) ∷ with_old old as' cs
 
 pub record Joined (old : ℕ) (ws as' : List ℕ) (cs : Choice) : Type 0 where
-  pub whole : length (with_due old as' cs) ≡ length ws
-  pub weighs : weight_of ws (with_due old as' cs) ≡ weight_of ws (due_of old as') + weight_of (free_of old ws as') cs
-  pub counts : opened (with_due old as' cs) ≡ opened (due_of old as') + opened cs
-  pub numbers : number_of (with_due old as' cs) ≡ number_of (due_of old as') + number_of cs
-  pub fills : none_empty ws (due_of old as') ≡ true → none_empty ws (with_due old as' cs) ≡ true
-  pub waits : keeps_old old as' (with_due old as' cs) ≡ true
+  pub whole : length (with_old old as' cs) ≡ length ws
+  pub weighs : weight_of ws (with_old old as' cs) ≡ weight_of ws (only_old old as') + weight_of (free_of old ws as') cs
+  pub counts : opened (with_old old as' cs) ≡ opened (only_old old as') + opened cs
+  pub numbers : number_of (with_old old as' cs) ≡ number_of (only_old old as') + number_of cs
+  pub fills : none_empty ws (only_old old as') ≡ true → none_empty ws (with_old old as' cs) ≡ true
+  pub old_opened : keeps_old old as' (with_old old as' cs) ≡ true
 
--- one pan: whether it is opened, may wait and is filled
+-- one pan: whether it is opened, young and filled
 joined_pan :
     (c b f : Bool) (w : ℕ) → cond c (cond (b && f) w 26000000) 0 < 26000000 →
     (cond (c || not b) w 0 ≡ cond (not b) w 0 + cond c (cond (b && f) w 26000000) 0) × (bit (c || not b) ≡ bit (not b) + bit c)
@@ -75,7 +75,7 @@ joined_pan false false f w less = (omega arith, refl, λ h. h, refl)
 
 pub join :
     (old : ℕ) (ws as' : List ℕ) (cs : Choice) → length as' ≡ length ws → length cs ≡ length ws → weight_of (free_of old ws as') cs < 26000000 → Joined old ws as' cs
-join old [] [] [] e f less = record { whole = refl; weighs = refl; counts = refl; numbers = refl; fills = λ h. refl; waits = refl }
+join old [] [] [] e f less = record { whole = refl; weighs = refl; counts = refl; numbers = refl; fills = λ h. refl; old_opened = refl }
 join old [] [] (c ∷ cs) e f less = absurd (omega arith)
 join old [] (a ∷ as') cs e f less = absurd (omega arith)
 join old (w ∷ ws) [] cs e f less = absurd (omega arith)
@@ -88,22 +88,22 @@ join old (w ∷ ws) (a ∷ as') (c ∷ cs) e f less =
       weighs = omega (arith, p.0, h.weighs);
       counts = omega (arith, p.1, h.counts);
       numbers = omega (arith, p.1, h.numbers);
-      fills = λ filled. let q = and_parts (not (not (ltb a old)) || leb 1 w) (none_empty ws (due_of old as')) filled in and_from _ _ (p.2 q.0) (h.fills q.1);
-      waits = and_from _ _ p.3 h.waits;
+      fills = λ filled. let q = and_parts (not (not (ltb a old)) || leb 1 w) (none_empty ws (only_old old as')) filled in and_from _ _ (p.2 q.0) (h.fills q.1);
+      old_opened = and_from _ _ p.3 h.old_opened;
     }
 
--- ---- a choice without the pans that have to be opened
+-- ---- a choice without the old pans
 
-abbrev pub without_due : ℕ → List ℕ → Choice → Choice
-without_due old [] ds = []
-without_due old (a ∷ as') [] = []
-without_due old (a ∷ as') (d ∷ ds) = (d && ltb a old) ∷ without_due old as' ds
+abbrev pub without_old : ℕ → List ℕ → Choice → Choice
+without_old old [] ds = []
+without_old old (a ∷ as') [] = []
+without_old old (a ∷ as') (d ∷ ds) = (d && ltb a old) ∷ without_old old as' ds
 
 pub record Split (old : ℕ) (ws as' : List ℕ) (ds : Choice) : Type 0 where
-  pub whole : length (without_due old as' ds) ≡ length ws
-  pub weighs : weight_of ws ds ≡ weight_of ws (due_of old as') + weight_of (free_of old ws as') (without_due old as' ds)
-  pub counts : opened ds ≡ opened (due_of old as') + opened (without_due old as' ds)
-  pub fills : none_empty ws (due_of old as') ≡ true
+  pub whole : length (without_old old as' ds) ≡ length ws
+  pub weighs : weight_of ws ds ≡ weight_of ws (only_old old as') + weight_of (free_of old ws as') (without_old old as' ds)
+  pub counts : opened ds ≡ opened (only_old old as') + opened (without_old old as' ds)
+  pub fills : none_empty ws (only_old old as') ≡ true
 
 split_pan :
     (d b f : Bool) (w : ℕ) → (not d || f) ≡ true → (d || b) ≡ true →
@@ -152,7 +152,7 @@ more_pan false false false f w ds es ds' es' g less e = absurd (false_true g)
 
 pub more_free :
     (old : ℕ) (ws as' : List ℕ) (ds cs : Choice) → length as' ≡ length ws → length ds ≡ length ws → length cs ≡ length ws → keeps_old old as' ds ≡ true →
-    weight_of (free_of old ws as') cs < 26000000 → first_more ds (with_due old as' cs) ≡ first_more (without_due old as' ds) cs
+    weight_of (free_of old ws as') cs < 26000000 → first_more ds (with_old old as' cs) ≡ first_more (without_old old as' ds) cs
 more_free old [] [] [] [] e f g h less = refl
 more_free old [] [] [] (c ∷ cs) e f g h less = absurd (omega arith)
 more_free old [] [] (d ∷ ds) cs e f g h less = absurd (omega arith)
@@ -162,7 +162,7 @@ more_free old (w ∷ ws) (a ∷ as') [] cs e f g h less = absurd (omega arith)
 more_free old (w ∷ ws) (a ∷ as') (d ∷ ds) [] e f g h less = absurd (omega arith)
 more_free old (w ∷ ws) (a ∷ as') (d ∷ ds) (c ∷ cs) e f g h less =
     let r = and_parts (d || ltb a old) (keeps_old old as' ds) h in
-    more_pan d c (ltb a old) (leb 1 w) w ds (with_due old as' cs) (without_due old as' ds) cs r.0 (omega arith)
+    more_pan d c (ltb a old) (leb 1 w) w ds (with_old old as' cs) (without_old old as' ds) cs r.0 (omega arith)
     (more_free old ws as' ds cs (omega arith) (omega arith) (omega arith) r.1 (omega arith))
 
 -- ---- four of the heaviest

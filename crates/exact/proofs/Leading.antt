@@ -109,7 +109,7 @@ picks_none {ws = ws} l cs m = let h = headed ws cs m in l h.0 h.1
 pub picks_some : {k x i : ℕ} {ws : List ℕ} → LeadsAt k ws x i → Never k (drop (suc i) ws) (x - get_or ws i 0) → ⊥
 picks_some l never = never l.heads.rest l.heads.makes
 
--- it fits a number of 32 bits
+-- it fits in 32 bits
 pub picks_fit :
     {k x i n : ℕ} {ws : List ℕ} → LeadsAt k ws x i → length ws ≤ 24 → Picked k (drop (suc i) ws) (x - get_or ws i 0) n →
     (i < 24) × ((n < 2 ^ 24) × ((2 * n + 1) * 2 ^ i < 2 ^ 32))
@@ -122,7 +122,7 @@ picks_fit {i = i} {n} {ws} l small p =
     let high : (2 * n + 1) * 2 ^ i < 2 ^ (suc j + i) = shl_below (2 * n + 1) (suc j) i odd in
     (omega (arith, l.heads.within), (omega (arith, pow_below j 24 (omega (arith, l.heads.within))), omega (arith, pow_below (suc j + i) 32 (omega (arith, l.heads.within)))))
 
--- what is already found of the pans behind a pan, where it is the first
+-- pan i is the first pan, with the choice that was found of the pans behind it
 pub leads_here :
     {k x i n : ℕ} {ws : List ℕ} → i < length ws → get_or ws i 0 ≤ x → ((j : ℕ) → j < i → Heads k ws x j → ⊥) →
     Picked k (drop (suc i) ws) (x - get_or ws i 0) n → LeadsAt k ws x i
@@ -176,7 +176,7 @@ one_heads {ws} {x} i within is =
 
 -- ---- the bytes of a table
 
--- they tell the same of the last pans alone
+-- a table of all pans is also one of the last pans alone
 pub tells_drop : {k : ℕ} {ws bytes : List ℕ} (j : ℕ) → j ≤ length ws → Tells k ws bytes → Tells k (drop j ws) bytes
 tells_drop {k} {ws} {bytes} j low t =
     record {

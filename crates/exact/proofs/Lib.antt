@@ -1,7 +1,7 @@
 -- The lemmas that several proofs share.
 mod Leading
 mod Telling
-mod Owing
+mod SummingOld
 mod Joining
 mod Choosing
 mod Bests

@@ -87,12 +87,12 @@ marked_sum {first} {byte} {i} ws {before} {bytes} within room same m =
 
 -- ---- the tables so far
 
--- the pans before i are gone over; k more pans are opened behind the first one
+-- the bytes tell of the choices whose first pan is before i, with k later pans
 pub record Filling (k : ℕ) (ws : List ℕ) (i : ℕ) (bytes : List ℕ) : Type 0 where
   pub each : (j x : ℕ) → j < i → x + 1 < length bytes → Heads k ws x j → get_or bytes x 0 + j ≤ length ws
   pub some : (x : ℕ) → x + 1 < length bytes → (get_or bytes x 0 ≡ 255) ⊎ ((j : ℕ) × (j < i) × (get_or bytes x 0 + j ≡ length ws) × Heads k ws x j)
 
--- one pan more is gone over
+-- the same with one pan more
 pub filling_more :
     {k i byte : ℕ} {ws bytes bytes' : List ℕ} → Filling k ws i bytes → length bytes' ≡ length bytes → byte + i ≡ length ws →
     Marked (λ x. Heads k ws x i) byte bytes bytes' → Filling k ws (i + 1) bytes'
@@ -116,7 +116,7 @@ filling_more {k} {i} {byte} {ws} {bytes} {bytes'} f same is m = record { each = 
     some x room (inl kept) (inr old) = inr (old.0, omega (arith, old.1), omega (arith, old.2), old.3)
     some x room (inr set) old = inr (i, omega arith, omega (arith, set.0), set.1)
 
--- ---- all pans are gone over
+-- ---- the tables of all pans
 
 pub filling_all :
     {k : ℕ} {ws bytes : List ℕ} → Filling k ws (length ws) bytes → length ws ≤ 24 → ((i : ℕ) → i < length ws → 1 ≤ get_or ws i 0) → 2 ≤ length bytes →
@@ -149,7 +149,7 @@ filling_all {k} {ws} {bytes} f small filled room = record { made = made; least =
 sums_from : {k x y : ℕ} {ws : List ℕ} (i : ℕ) → Heads 0 ws y i → k + y ≡ x → Sums k ws x
 sums_from i h e = record { pan = i; within = h.within; is = omega (arith, heads_one i h) }
 
--- two pans make what the first of them makes with some pan behind it
+-- a choice of two pans is a first pan and one behind it
 pub heads_sums : {x i : ℕ} {ws : List ℕ} → Heads 1 ws x i → Sums (get_or ws i 0) (drop (suc i) ws) x
 heads_sums {x} {i} {ws} h =
     let one = headed (drop (suc i) ws) h.rest h.makes in

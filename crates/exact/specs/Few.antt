@@ -1,14 +1,17 @@
--- Choices of just so many of some pans. Assumes nothing: these are definitions.
---   Makes     a choice of k pans that weighs so much
---   Never     no choice of k pans weighs so much
---   First     of those choices, the one that opens the first pan that differs
---   Picks     that choice, by its number, or that there is none
---   Heads     in some choice of k + 1 of the pans from pan i on, pan i is opened
---   Leads     the first such pan, or that there is none
---   Tells     for each weight the least number of last pans of which some k make it, as a byte; more than there are pans: none do
---   Sums      some pan makes so much with a weight beside it
---   Marked    bytes at which something holds are set, all others stay; the last byte is for what is too much
---   Chosen    the choice of the fewest pans that weighs so much, within a limit and of at most four, or that there is none
+-- Choices of exactly k of some pans. Assumes nothing: these are definitions.
+--   Makes      cs opens k pans and weighs x
+--   Never      no choice of k pans weighs x
+--   First      of the choices of k pans that weigh x, cs is the one that opens the first pan that differs
+--   Picked     that choice has this number
+--   Picks      its number; None: there is no such choice
+--   Heads      some choice of pan i and k later pans weighs x
+--   LeadsAt    i is the first such pan
+--   Leads      the first such pan; None: there is none
+--   Tells      byte x says how few of the last pans are enough for k of them to weigh x; more than there are pans: none do
+--   Sums       some pan weighs x together with `first`
+--   Marked     the bytes at which P holds are set, all others stay; of the last byte nothing is said
+--   ChosenAt   the choice of the fewest pans that weighs x, of at most `most`, has this number
+--   Chosen     its number; None: no choice of at most `most` and at most four pans weighs x
 use Rattle.std.specs.Prelude.{◌≡◌, ℕ, suc, ◌+◌, ◌-◌, ◌<◌, ◌≤◌, ◌⊎◌, List, length, drop, false, Some, None, Option, slice_index}
 use Rattle.choices.specs.Choice.{Choice, weight_of, opened}
 use Rattle.choices.specs.Numbered.{number_of}

@@ -1,5 +1,5 @@
 -- The definitions that contracts cite.
 pub mod Pans
 pub mod Few
-pub mod Owed
+pub mod Old
 pub mod Answers

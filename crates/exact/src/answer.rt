@@ -1,24 +1,26 @@
-// The best bag of a ring where it weighs just the target.
+//! The best bag of a ring, where it weighs exactly the target.
 ghost use Rattle.std.specs.Prelude.{length};
 ghost use Rattle.exact.specs.Answers.{Answers};
 
-use crate::due::due_pans;
 use crate::few::few;
 use crate::free::{free_weights, heaviest};
+use crate::old::old_pans;
 use choices::Ring;
 use order::Bag;
 
-// The best of all choices that fit the ring's rule, where one of them weighs just the target and opens at most four pans beside
-// those that have to be opened; none where no choice does, or where the room is too short for two tables up to the target.
+/// The best bag of a ring, if it can weigh exactly the target with at most four pans besides the old ones.
+///
+/// Answers `None` where no such choice fits the ring's rule, and may do so where `room` is shorter than 2 * (target + 2)
+/// bytes. `room` may hold anything; its contents are unspecified afterwards.
 pub fn best(ring: Ring, room: &mut [u8]) -> Option<Bag>
     ensures { Answers ring.entry.rule ring.entry.weights.now ring.entry.ages.now (length room.old) result }
 {
     let rule = ring.rule;
-    let held = due_pans(ring);
-    if !held.filled || held.pans > rule.pans || held.weight > rule.target {
+    let old = old_pans(ring);
+    if !old.filled || old.pans > rule.pans || old.weight > rule.target {
         return None;
     }
-    let left = rule.target - held.weight;
+    let left = rule.target - old.weight;
     let mut pans = [0; 24];
     let free = &mut pans[..ring.weights.len()];
     free_weights(ring, free);
@@ -27,9 +29,9 @@ pub fn best(ring: Ring, room: &mut [u8]) -> Option<Bag>
         return None;
     }
     let (ones, pairs) = room[..2 * wide].split_at_mut(wide);
-    let more = few(free, left, rule.pans - held.pans, ones, pairs)?;
+    let more = few(free, left, rule.pans - old.pans, ones, pairs)?;
     Some(Bag {
-        pans: held.number + more,
+        pans: old.number + more,
         weight: rule.target,
     })
 }

@@ -1,11 +1,15 @@
-// The choice of the fewest pans that weighs just so much, of at most four.
+//! The choice of the fewest pans that weighs exactly so much, of at most four pans.
 ghost use Rattle.std.specs.Prelude.{ℕ, ◌+◌, ◌<◌, ◌≤◌, length, slice_index, EachIndex};
 ghost use Rattle.exact.specs.Few.{Chosen};
 
 use crate::picks::{four, one, three, two};
 use crate::tables::{fill_ones, fill_pairs};
 
-// One pan more is tried only where fewer do not make it, and each table is filled only where it is needed.
+/// The choice of the fewest pans that weighs exactly `weight`, of at most `most` pans and never more than four.
+///
+/// Of choices of as many pans it is the one that opens the first pan that differs; bit `i` of the answer is pan `i`.
+/// `free` is what `free_weights` writes. `ones` and `pairs` have at least `weight` + 2 bytes and may hold anything; their
+/// contents are unspecified afterwards.
 pub fn few(free: &[u32], weight: u32, most: u32, ones: &mut [u8], pairs: &mut [u8]) -> Option<u32>
     requires few { length free.now ≤ 24 }
     requires some { EachIndex free.now (λ i. 1 ≤ slice_index free.now i) }
@@ -13,6 +17,7 @@ pub fn few(free: &[u32], weight: u32, most: u32, ones: &mut [u8], pairs: &mut [u
     requires room { (weight + 1 < length ones.old) × (weight + 1 < length pairs.old) }
     ensures { Chosen most free.now weight result }
 {
+    // One more pan is tried only where fewer do not make it, and each table is filled only when it is needed.
     if weight == 0 {
         return Some(0);
     }

@@ -1,34 +1,32 @@
-// The pans of a ring that may be opened and may stay shut.
+//! The free pans of a ring: neither old nor empty, so that they may be opened or stay shut.
 ghost use Rattle.std.specs.Prelude.{◌≡◌, ℕ, ◌<◌, ◌≤◌, ◌⊎◌, length, slice_index};
-ghost use Rattle.exact.specs.Pans.{free_of, loose};
+ghost use Rattle.exact.specs.Pans.{free_of, if_free};
 
 use choices::Ring;
 
-// More than any target, so that a pan of this weight is never opened.
+// Heavier than any target, so that a pan of this weight is never opened.
 const BARRED: u32 = 26_000_000;
 
-// A pan that has to be opened, or is empty, is barred.
-fn loose_weight(may_wait: bool, weight: u32) -> u32
-    ensures { result ≡ loose may_wait weight }
+// A pan's weight if it is free; else it is barred.
+fn weight_if_free(young: bool, weight: u32) -> u32
+    ensures { result ≡ if_free young weight }
 {
-    if may_wait && weight >= 1 {
-        weight
-    } else {
-        BARRED
-    }
+    if young && weight >= 1 { weight } else { BARRED }
 }
 
-// What each pan weighs that may be opened.
+/// Writes the weight of each free pan of a ring, and more than any target for each old or empty one: so these stay shut.
+///
+/// `free` has as many places as the ring has pans.
 pub fn free_weights(ring: Ring, free: &mut [u32])
     requires { length free.old ≡ length ring.weights.now }
     ensures { free.new ≡ free_of ring.entry.rule.age ring.entry.weights.now ring.entry.ages.now }
 {
     for (pan, lies) in free.iter_mut().enumerate() {
-        *lies = loose_weight(ring.ages[pan] < ring.rule.age, ring.weights[pan]);
+        *lies = weight_if_free(ring.ages[pan] < ring.rule.age, ring.weights[pan]);
     }
 }
 
-// The heaviest of those that are not too heavy; 0 where there is none.
+/// The heaviest of the pans that weigh at most `most`, or 0 where there is none.
 pub fn heaviest(free: &[u32], most: u32) -> u32
     ensures within { result ≤ most }
     ensures some { (result ≡ 0) ⊎ ((i : ℕ) × (i < length free.now) × (slice_index free.now i ≡ result)) }

@@ -1,7 +1,9 @@
-// Of the choices of one, two, three or four pans that weigh just so much, the one that opens the first pan that differs.
+//! The choices of one, two, three or four pans that weigh exactly so much, as numbers: bit i is pan i. Of several choices
+//! the one is answered that opens the first pan that differs. `ones` and `pairs` are the tables of tables.rt.
 ghost use Rattle.std.specs.Prelude.{◌≡◌, ℕ, ◌+◌, ◌*◌, ◌^◌, ◌<◌, ◌≤◌, length};
 ghost use Rattle.exact.specs.Few.{Leads, Picks, Tells};
 
+/// The first pan that weighs exactly `weight`, or `None`: there is none.
 pub fn one(free: &[u32], weight: u32) -> Option<u32>
     requires { length free.now ≤ 24 }
     ensures { Picks 1 free.now weight result }
@@ -10,8 +12,8 @@ pub fn one(free: &[u32], weight: u32) -> Option<u32>
     Some(1 << pan)
 }
 
-// The first pan that some pans behind it, as many as the table is for, bring to the weight. A pan that is too heavy leads to
-// the first byte, at which nothing is told, so that no weight is tested.
+// The first pan that, with k later pans, weighs exactly `weight`; k is what the table is for. A pan that is too heavy reads
+// byte 0, which never tells of a choice, so that no weight is compared.
 fn lead(free: &[u32], table: &[u8], weight: u32) -> Option<usize>
     ghost pans: { ℕ }
     requires room { weight + 1 < length table.now }
@@ -23,7 +25,7 @@ fn lead(free: &[u32], table: &[u8], weight: u32) -> Option<usize>
     })
 }
 
-// The number of a choice that opens a pan and then those of a choice of the pans behind it.
+// The number of a choice that opens `pan` and, of the pans after it, those of the choice `behind`.
 fn joined(pan: usize, behind: u32) -> u32
     requires { (pan < 24) × ((behind < 2 ^ 24) × ((2 * behind + 1) * 2 ^ pan < 2 ^ 32)) }
     ensures { result ≡ (2 * behind + 1) * 2 ^ pan }
@@ -31,7 +33,7 @@ fn joined(pan: usize, behind: u32) -> u32
     (2 * behind + 1) << pan
 }
 
-// By the table of single pans.
+/// The choice of two pans that weighs exactly `weight`, or `None`: there is none.
 pub fn two(free: &[u32], ones: &[u8], weight: u32) -> Option<u32>
     requires few { length free.now ≤ 24 }
     requires room { weight + 1 < length ones.now }
@@ -43,7 +45,7 @@ pub fn two(free: &[u32], ones: &[u8], weight: u32) -> Option<u32>
     Some(joined(pan, rest))
 }
 
-// By the table of two pans.
+/// The choice of three pans that weighs exactly `weight`, or `None`: there is none.
 pub fn three(free: &[u32], ones: &[u8], pairs: &[u8], weight: u32) -> Option<u32>
     requires few { length free.now ≤ 24 }
     requires room { (weight + 1 < length ones.now) × (weight + 1 < length pairs.now) }
@@ -56,7 +58,7 @@ pub fn three(free: &[u32], ones: &[u8], pairs: &[u8], weight: u32) -> Option<u32
     Some(joined(pan, rest))
 }
 
-// A table of three pans would take longer to fill than this takes.
+/// The choice of four pans that weighs exactly `weight`, or `None`: there is none.
 pub fn four(free: &[u32], ones: &[u8], pairs: &[u8], weight: u32) -> Option<u32>
     requires few { length free.now ≤ 24 }
     requires room { (weight + 1 < length ones.now) × (weight + 1 < length pairs.now) }
@@ -64,6 +66,7 @@ pub fn four(free: &[u32], ones: &[u8], pairs: &[u8], weight: u32) -> Option<u32>
     requires pairs { Tells 2 free.now pairs.now }
     ensures { Picks 4 free.now weight result }
 {
+    // Each pan with three later ones: a table of three pans would take longer to fill than this takes.
     for (pan, w) in free.iter().enumerate() {
         if *w <= weight {
             if let Some(rest) = three(&free[pan + 1..], ones, pairs, weight - *w) {

@@ -1,8 +1,9 @@
-// For each weight the least number of last pans of which one pan, or two, make it: tables in a lent room.
+//! Two tables in a lent room, of one pan and of two: byte x tells how few of the last pans are enough for one pan, or two,
+//! of them to weigh exactly x. It is 255 where none do, and the last byte collects what is too heavy.
 ghost use Rattle.std.specs.Prelude.{◌≡◌, ℕ, ◌+◌, ◌<◌, ◌≤◌, length, slice_index, EachIndex};
 ghost use Rattle.exact.specs.Few.{Marked, Sums, Tells};
 
-// The table of single pans. A later pan writes over an earlier one; what is too heavy goes to the last byte.
+/// Fills the table of single pans of `free`, which is what `free_weights` writes.
 pub fn fill_ones(free: &[u32], ones: &mut [u8])
     requires few { length free.now ≤ 24 }
     requires some { EachIndex free.now (λ i. 1 ≤ slice_index free.now i) }
@@ -11,12 +12,13 @@ pub fn fill_ones(free: &[u32], ones: &mut [u8])
 {
     let top = ones.len() - 1;
     ones.fill(255);
+    // A later pan overwrites an earlier one.
     for (pan, w) in free.iter().enumerate() {
         ones[(*w as usize).min(top)] = (free.len() - pan) as u8;
     }
 }
 
-// The sums of a pan and each of those behind it.
+// Writes `byte` for the sums of `first` and each pan of `behind`.
 fn mark(first: u32, behind: &[u32], byte: u8, pairs: &mut [u8])
     requires light { first ≤ 26000000 }
     requires all { EachIndex behind.now (λ i. slice_index behind.now i ≤ 26000000) }
@@ -29,7 +31,7 @@ fn mark(first: u32, behind: &[u32], byte: u8, pairs: &mut [u8])
     }
 }
 
-// The table of two pans, by the first of them.
+/// Fills the table of pairs of pans of `free`, which is what `free_weights` writes.
 pub fn fill_pairs(free: &[u32], pairs: &mut [u8])
     requires few { length free.now ≤ 24 }
     requires some { EachIndex free.now (λ i. 1 ≤ slice_index free.now i) }

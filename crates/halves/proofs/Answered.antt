@@ -19,7 +19,7 @@ module _ (r : Rule) (ws as' : List ℕ) (few : length ws ≤ 24) (paired : lengt
   allowed_from cs h =
       let f = fitting r ws as' cs h in
       let s = place_says ws cs few f.whole in
-      (record { ways = rw by-ways-is (by_ring r.age ws as' cs paired f.whole ∙ and_from _ _ f.filled f.waited); few = omega (arith, f.few); enough = omega (arith, s.0, f.enough) }, omega (arith, s.0, f.within))
+      (record { ways = rw by-ways-is (by_ring r.age ws as' cs paired f.whole ∙ and_from _ _ f.filled f.old_opened); few = omega (arith, f.few); enough = omega (arith, s.0, f.enough) }, omega (arith, s.0, f.within))
 
   whole_allowed : (cs : Choice) → by_ways vs cs ≡ true → length cs ≡ length ws
   whole_allowed cs a = length_by_ways vs cs a ∙ ap length by-ways-is ∙ length_ways r.age ws as' paired
@@ -29,7 +29,7 @@ module _ (r : Rule) (ws as' : List ℕ) (few : length ws ≤ 24) (paired : lengt
       let e = whole_allowed cs a.ways in
       let k = and_parts (none_empty ws cs) (keeps_old r.age as' cs) (sym (by_ring r.age ws as' cs paired e) ∙ rw by-ways-is at a.ways) in
       let s = place_says ws cs few e in
-      fits_from r ws as' cs (record { whole = e; enough = omega (arith, s.0, a.enough); within = omega (arith, s.0); few = omega (arith, a.few); filled = k.0; waited = k.1 })
+      fits_from r ws as' cs (record { whole = e; enough = omega (arith, s.0, a.enough); within = omega (arith, s.0); few = omega (arith, a.few); filled = k.0; old_opened = k.1 })
 
   pub found_none : ((cs : Choice) → Allowed limit ws vs from cs → to ≤ place 0 ws cs) → (cs : Choice) → fits r ws as' cs ≡ false
   found_none h cs = ⊎_elim (λ e. let a = allowed_from cs e in absurd (omega (arith, a.1, h cs a.0))) (λ e. e) (cases_Bool (fits r ws as' cs))

@@ -19,7 +19,7 @@ by_ways_cut (suc n) [] [] h = (refl, refl)
 by_ways_cut (suc n) [] (c ∷ cs) h = absurd (both_ways false refl h)
 by_ways_cut (suc n) (v ∷ vs) [] h = absurd (both_ways false refl h)
 by_ways_cut (suc n) (v ∷ vs) (c ∷ cs) h =
-    let k = and_parts (cond c v.opens v.stays) (by_ways vs cs) h in
+    let k = and_parts (cond c v.opens v.young) (by_ways vs cs) h in
     let g = by_ways_cut n vs cs k.1 in
     (and_from _ _ k.0 g.0, g.1)
 
@@ -29,7 +29,7 @@ by_ways_uncut (suc n) [] [] g h = refl
 by_ways_uncut (suc n) [] (c ∷ cs) g h = absurd (both_ways false refl g)
 by_ways_uncut (suc n) (v ∷ vs) [] g h = absurd (both_ways false refl g)
 by_ways_uncut (suc n) (v ∷ vs) (c ∷ cs) g h =
-    let k = and_parts (cond c v.opens v.stays) (by_ways (take n vs) (take n cs)) g in
+    let k = and_parts (cond c v.opens v.young) (by_ways (take n vs) (take n cs)) g in
     and_from _ _ k.0 (by_ways_uncut n vs cs k.1 h)
 
 pub place_cut : (b n : ℕ) (ws : List ℕ) (cs : Choice) → length cs ≡ length ws → place b ws cs ≡ place (b + length (drop n cs)) (take n ws) (take n cs) + place b (drop n ws) (drop n cs)

@@ -6,8 +6,8 @@ ghost use Rattle.order.specs.Order.{Found};
 
 use crate::halves::{fill, next};
 use choices::Ring;
-use order::Bag;
 use halves_places::{Pans, bag_in, ways};
+use order::Bag;
 
 // The best choice by the ring's rule, found in a lent room; what the room holds afterwards has no meaning.
 pub fn best(ring: Ring, room: &mut [u64]) -> Option<Bag>

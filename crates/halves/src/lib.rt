@@ -10,5 +10,5 @@ pub use answer::best;
 pub use filled::Halves;
 pub use halves::{fill, next};
 pub use halves_places::{Pans, Way, bag_in, pans_in, weight_in};
-pub use rooms::{ROOM, full_room, room_for};
 pub use halves_sieves::Bounds;
+pub use rooms::{ROOM, full_room, room_for};

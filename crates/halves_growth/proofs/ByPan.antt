@@ -1,4 +1,4 @@
--- A part of the pans grows by one pan, from the last pan to the first.
+-- A part of the pans takes in one more pan, from the last pan to the first.
 use Rattle.std.proofs.Common.{◌≡◌, ℕ, zero, suc, ◌+◌, ◌-◌, ◌*◌, ◌^◌, ◌<◌, ◌≤◌, true, false, ◌⊎◌, List, [], ◌∷◌, length, get_or, drop, sym, refl, ap, ◌∙◌, inl, inr, arith, pow_mono}
 use native.Mathlib.Nat.{pow-succ'}
 use Rattle.std.proofs.lemmas.Bool.{and_parts, and_from, both_ways}
@@ -12,7 +12,7 @@ use Rattle.halves_places.specs.declared.pans.Pans.{Pans}
 use Rattle.halves_places.specs.declared.way.Way.{Way}
 use Rattle.halves_places.proofs.Places.{length_by_ways, pow_more, place_below}
 
--- no pan yet: one choice, that of no pans
+-- no pan yet: the one choice of no pans
 none_of : (b r to : ℕ) (es : List ℕ) → get_or es 0 0 ≡ r → Part b r to [] [] es 1
 none_of b r to es e =
     record {
@@ -49,13 +49,13 @@ more_of b r r' to w ws v vs old es n n' gain h g paired few lower gained =
         let t : get_or old x.0 0 + gain < to = omega arith in
         rw y at (g.adds k.0 x.0 x.1 t)
     every (false ∷ cs) a l =
-        let k : (v.stays ≡ true) × (by_ways vs cs ≡ true) = and_parts v.stays (by_ways vs cs) a in
+        let k : (v.young ≡ true) × (by_ways vs cs ≡ true) = and_parts v.young (by_ways vs cs) a in
         let p : 2 ^ (b + length cs) ≡ 2 ^ (b + length ws) = ap (λ (m : ℕ). 2 ^ (b + m)) (length_by_ways vs cs k.1 ∙ paired) in
         let x : Holds old n (place b ws cs + r) = h.every cs k.1 (omega arith) in
         let y : get_or old x.0 0 ≡ place b (w ∷ ws) (false ∷ cs) + r' = omega (arith, x.2) in
         rw y at (g.keeps k.0 x.0 x.1)
 
-    only : (q : ℕ) → ((v.stays ≡ true) × Holds old n (get_or es q 0)) ⊎ ((v.opens ≡ true) × ((p : ℕ) × (p < n) × (get_or old p 0 + gain ≡ get_or es q 0))) → (cs : Choice) × (by_ways (v ∷ vs) cs ≡ true) × (place b (w ∷ ws) cs + r' ≡ get_or es q 0)
+    only : (q : ℕ) → ((v.young ≡ true) × Holds old n (get_or es q 0)) ⊎ ((v.opens ≡ true) × ((p : ℕ) × (p < n) × (get_or old p 0 + gain ≡ get_or es q 0))) → (cs : Choice) × (by_ways (v ∷ vs) cs ≡ true) × (place b (w ∷ ws) cs + r' ≡ get_or es q 0)
     only q (inl (s, (p, l, e))) =
         let x = h.only p l in
         (false ∷ x.0, and_from _ _ s x.1, omega (arith, e, x.2, ap (λ (m : ℕ). 2 ^ (b + m)) (length_by_ways vs x.0 x.1 ∙ paired)))

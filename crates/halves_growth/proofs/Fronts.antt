@@ -17,7 +17,7 @@ opening_front to v gain es n m room h =
       all = λ o p l b. h.all o p (omega (arith, length-take-le n es room)) (omega (arith, get_or-take n es p 0 l));
     }
 
--- where they were raised
+-- the same where they were raised
 pub raised_front :
     (es bs : List ℕ) (k gain : ℕ) → k ≤ length es → length bs ≡ length (take k es) → ((p : ℕ) → p < length (take k es) → get_or bs p 0 ≡ get_or (take k es) p 0 + gain) →
     (p : ℕ) → p < k → get_or (bs ++ drop k es) p 0 ≡ get_or es p 0 + gain

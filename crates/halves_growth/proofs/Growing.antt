@@ -1,4 +1,4 @@
--- One pan more in a part of the pans: both ways in one merge, or one way alone.
+-- One more pan: shut and opened in one merge, or just one of them.
 use Rattle.std.proofs.Common.{◌≡◌, ℕ, ◌+◌, ◌<◌, true, false, List, get_or, sym, inl, inr, ⊎_elim, arith}
 use Rattle.std.proofs.lemmas.Bool.{cases_lt, both_ways}
 use Rattle.halves_growth.specs.Entries.{Rises, Below, Merged, Grown, Opening}
@@ -16,7 +16,7 @@ pub opening_none : (to : ℕ) (v : Way) (gain : ℕ) (es : List ℕ) (n : ℕ) �
 opening_none to v gain es n o = record { few = omega arith; opens = λ k. absurd (omega arith); all = λ e p l b. absurd (both_ways _ o e) }
 
 pub grown_both :
-    (to : ℕ) (v : Way) (gain : ℕ) (old es : List ℕ) (n m : ℕ) → Opening to v gain old n m → v.stays ≡ true →
+    (to : ℕ) (v : Way) (gain : ℕ) (old es : List ℕ) (n m : ℕ) → Opening to v gain old n m → v.young ≡ true →
     Merged old es n m gain → Grown to v gain old es n (n + m)
 grown_both to v gain old es n m o s h =
     record {
@@ -28,7 +28,7 @@ grown_both to v gain old es n m o s h =
     }
 
 pub grown_opened :
-    (to : ℕ) (v : Way) (gain : ℕ) (old es : List ℕ) (n m : ℕ) → Opening to v gain old n m → v.stays ≡ false → Rises old n →
+    (to : ℕ) (v : Way) (gain : ℕ) (old es : List ℕ) (n m : ℕ) → Opening to v gain old n m → v.young ≡ false → Rises old n →
     ((p : ℕ) → p < m → get_or es p 0 ≡ get_or old p 0 + gain) → Grown to v gain old es n m
 grown_opened to v gain old es n m o s rises h =
     record {

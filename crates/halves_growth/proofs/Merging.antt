@@ -1,14 +1,14 @@
--- A merge from the back: what is settled behind, and that each turn settles one entry more.
+-- A merge from the back: each turn puts one entry in its final place.
 use Rattle.std.proofs.Common.{◌≡◌, ℕ, ◌+◌, ◌-◌, ◌<◌, ◌≤◌, max, ◌≢◌, ◌⊎◌, List, length, get_or, set, sym, refl, ap, ◌∙◌, inl, inr, ⊎_elim, arith}
 use Rattle.std.proofs.lemmas.List.{get_or-set_same, get_or-set_other}
 use Rattle.std.proofs.lemmas.Bool.{cases_eq, cases_lt}
 use Rattle.halves_growth.specs.Entries.{Rises, Holds, Merged}
 
--- a number is among the entries from t on, below e
+-- x is among the entries from t up to e
 abbrev pub Behind : List ℕ → ℕ → ℕ → ℕ → Type 0
 Behind es t e x = (q : ℕ) × (t ≤ q) × (q < e) × (get_or es q 0 ≡ x)
 
--- i entries and j raised ones are still to be placed
+-- i entries and j raised ones are still to be placed, all others are in their final places
 pub record Merging (old es : List ℕ) (n m gain i j : ℕ) : Type 0 where
   pub kept_left : i ≤ n
   pub added_left : j ≤ m
@@ -36,7 +36,7 @@ merging_none es n m gain h =
       only = λ q a l. absurd (omega arith);
     }
 
--- the entry x is settled at t, right before what is behind
+-- x is put at t, right before those in their final places
 pub merging_more :
     (old es es' : List ℕ) (n m gain i j i' j' t x : ℕ) → Merging old es n m gain i j →
     get_or es' t 0 ≡ x → ((q : ℕ) → q ≢ t → get_or es' q 0 ≡ get_or es q 0) →
@@ -76,7 +76,7 @@ merging_more old es es' n m gain i j i' j' t x h here there at at' li lj fewer s
     origin q a l (inl e) = rw (e, here) from
     origin q a l (inr e) = rw (there q e) (h.only q (omega arith) l)
 
--- one turn: the larger of the two last ones is settled
+-- one turn: the larger of the two last ones is placed
 module _ (old es : List ℕ) (n m gain i j : ℕ) (h : Merging old es n m gain i j) (some : 0 < j) (room : n + m ≤ length es) (rises : Rises old n) where
   last_kept : get_or es (i - 1) 0 ≡ get_or old (i - 1) 0
   last_kept = h.front (i - 1) (omega (arith, h.fewer))

@@ -1,6 +1,6 @@
 -- A part of the pans as its entries tell it. Assumes nothing: these are definitions.
---   Part         the first n entries are the places of the part's choices in order, with b pans behind it, each raised by r;
---                left out may be what is not below the bound
+--   Part         the first n entries are the places of the part's choices by the ways, sorted, with b pans behind and each
+--                raised by r; those that are not below `to` may be left out
 use Rattle.std.specs.Prelude.{◌≡◌, ℕ, ◌+◌, ◌^◌, ◌<◌, ◌≤◌, true, List, length, slice_index}
 use Rattle.choices.specs.Choice.{Choice}
 use Rattle.halves_places.specs.Place.{by_ways, place}

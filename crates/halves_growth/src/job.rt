@@ -1,11 +1,14 @@
-// What is to be merged.
+//! What a merge has to do.
 ghost use Rattle.std.specs.Prelude.{◌^◌, ◌<◌, ◌≤◌};
 
-// The first `kept` entries, with the first `added` of them raised by the gain.
+/// A merge of the first `kept` entries with copies of the first `added` of them, raised by `gain`.
 #[derive(Clone, Copy)]
 pub struct Merge {
+    /// How many entries are kept as they are.
     pub kept: usize,
+    /// How many raised copies are added; at most `kept`.
     pub added: usize,
+    /// By how much the copies are raised; below 2^62.
     pub gain: u64,
     ghost fewer: { added ≤ kept },
     ghost small: { gain < 2 ^ 62 },

@@ -1,4 +1,7 @@
-// The choices of a part of the pans as entries in order, pan after pan.
+//! The places of all choices of some pans as a sorted list, grown pan by pan in a lent room.
+//!
+//! With each pan the list is merged with a copy of itself, raised by what the pan adds, so that it never has to be sorted:
+//! the lists of Horowitz and Sahni (1974). An entry is the place of a choice (see `halves_places`).
 #![tactic(auto)]
 
 mod job;

@@ -1,4 +1,4 @@
-// One pan more in a part of the pans.
+//! One more pan in a sorted list of places.
 ghost use Rattle.std.specs.Prelude.{◌≡◌, ℕ, ◌+◌, ◌^◌, ◌<◌, ◌≤◌, length, slice_index};
 ghost use Rattle.halves_growth.specs.Entries.{Below, Grown, Opening, Rises, Sorted};
 
@@ -6,8 +6,7 @@ use crate::job::Merge;
 use crate::merges::merge;
 use crate::pan::Pan;
 
-// How many of the entries stay below the bound with the gain. That they rise is asked for, here and where they are sieved: a type
-// for a slice that rises would be made at one call and taken apart at the next.
+// How many of the sorted entries stay below `to` when they are raised by `gain`.
 fn below(es: &[u64], gain: u64, to: u64) -> usize
     requires { Rises es.now (length es.now) }
     ensures { Below es.now (length es.now) gain to result }
@@ -16,7 +15,7 @@ fn below(es: &[u64], gain: u64, to: u64) -> usize
     es.partition_point(|e| *e < under)
 }
 
-// Raises the entries by the gain.
+// Raises each entry by `gain`.
 fn raise(es: &mut [u64], gain: u64)
     requires low { (p : ℕ) → p < length es.old → slice_index es.old p < 2 ^ 62 }
     requires small { gain < 2 ^ 62 }
@@ -27,7 +26,9 @@ fn raise(es: &mut [u64], gain: u64)
     }
 }
 
-// To how many of the entries the pan is opened: none, or those that stay below the bound.
+/// Beside how many of the entries, from the first on, `pan` is opened: those that stay below `to` with it.
+///
+/// It is 0 where the pan may not be opened. `es` is sorted.
 pub fn openable(es: &[u64], pan: Pan, to: u64) -> usize
     requires { Rises es.now (length es.now) }
     ensures { Opening to pan.way pan.gain es.now (length es.now) result }
@@ -39,8 +40,10 @@ pub fn openable(es: &[u64], pan: Pan, to: u64) -> usize
     }
 }
 
-// One pan more, which may be opened or stay shut by its way; gives how many entries there are then. The entries fill the
-// front of a lent room, and new ones are made behind them, so their number stands beside the room.
+/// Takes one more pan into the first `n` entries of `es`, and answers how many there are then; they stay sorted.
+///
+/// An entry stays as it is where the pan is young, and comes again with the pan opened where this may be and stays below
+/// `to`. The first `n` entries are sorted and below 2^62. `es` has at least 2 * `n` places; those behind do not change.
 pub fn grow(es: &mut [u64], n: usize, pan: Pan, to: u64) -> usize
     requires room { n + n ≤ length es.old }
     requires sorted { Sorted es.old n }
@@ -49,7 +52,7 @@ pub fn grow(es: &mut [u64], n: usize, pan: Pan, to: u64) -> usize
     ensures rest { (q : ℕ) → n + n ≤ q → slice_index es.new q ≡ slice_index es.old q }
 {
     let added = openable(&es[..n], pan, to);
-    if pan.way.stays {
+    if pan.way.young {
         merge(
             es,
             Merge {

@@ -1,4 +1,4 @@
-// A part of the pans: the places of all its choices in order.
+//! A part of the pans: the places of all its choices, sorted.
 ghost use Rattle.std.specs.Prelude.{◌≡◌, ℕ, ◌+◌, ◌-◌, ◌*◌, ◌^◌, ◌<◌, ◌≤◌, length};
 ghost use Rattle.halves_growth.specs.Part.{Part};
 
@@ -6,7 +6,9 @@ use crate::more::grow;
 use crate::pan::Pan;
 use halves_places::Pans;
 
-// What the place gains where a pan is opened that was shut, with so many pans behind it.
+/// What a place gains where a pan of this weight is opened instead of shut, with `behind` pans behind it.
+///
+/// `weight` is at most 1,000,000 and `behind` at most 23.
 pub fn gain(weight: u32, behind: usize) -> u64
     requires light { weight ≤ 1000000 }
     requires few { behind < 24 }
@@ -15,7 +17,7 @@ pub fn gain(weight: u32, behind: usize) -> u64
     (u64::from(weight) << 29) + (1 << 24) - (1 << behind)
 }
 
-// What so many pans add to a place while all of them stay shut, with so many pans behind them.
+/// What `count` pans add to a place while all of them stay shut, with `behind` pans behind them; at most 24 in all.
 pub fn all_shut(count: usize, behind: usize) -> u64
     requires { behind + count ≤ 24 }
     ensures { result ≡ 2 ^ (behind + count) - 2 ^ behind }
@@ -23,7 +25,10 @@ pub fn all_shut(count: usize, behind: usize) -> u64
     (1 << (behind + count)) - (1 << behind)
 }
 
-// Fills the entries from the last pan to the first, with so many pans behind the part; gives how many there are.
+/// Fills `es` with the places of all choices by the ways of `pans`, sorted, and answers how many there are.
+///
+/// `behind` pans stand behind them, at most 24 in all. What is not below `to` may be left out. `es` may hold anything, with
+/// at least 2^n places for n pans; what it holds behind the entries is unspecified afterwards.
 pub fn part(pans: Pans, behind: usize, to: u64, es: &mut [u64]) -> usize
     requires few { behind + length pans.weights.now ≤ 24 }
     requires room { 2 ^ length pans.weights.now ≤ length es.old }

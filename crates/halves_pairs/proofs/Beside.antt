@@ -1,10 +1,10 @@
--- A merge that is ended by another.
+-- A merge whose rest is done by another merge.
 use Rattle.std.proofs.Common.{◌≡◌, ℕ, ◌+◌, ◌<◌, ◌≤◌, ◌⊎◌, List, get_or, sym, ap, ◌∙◌, inl, inr, ⊎_elim, arith}
 use Rattle.std.proofs.lemmas.Bool.{cases_lt}
 use Rattle.halves_growth.specs.Entries.{Sorted, Holds, Merged}
 use Rattle.halves_growth.proofs.Merging.{Behind, Merging}
 
--- what is settled stands, and the rest is merged by itself
+-- what is placed stays, and the rest is merged by itself
 pub merged_rest :
     (old mid es : List ℕ) (n m gain i j : ℕ) → Merging old mid n m gain i j →
     Merged mid es i j gain → ((q : ℕ) → i + j ≤ q → get_or es q 0 ≡ get_or mid q 0) → Merged old es n m gain
@@ -36,7 +36,7 @@ merged_rest old mid es n m gain i j h g rest =
     ordered p q a l (inr e) (inl f) = absurd (omega arith)
     ordered p q a l (inr e) (inr f) = omega (arith, rest p e, rest q f, h.rises p q e a l)
 
--- what is still to be placed is in order
+-- what is still to be placed is sorted
 pub sorted_left : (old es : List ℕ) (n m gain i j : ℕ) → Merging old es n m gain i j → Sorted old n → Sorted es i
 sorted_left old es n m gain i j h s =
     record {

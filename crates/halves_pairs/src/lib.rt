@@ -1,4 +1,4 @@
-// The choices of two parts of the pans as entries in order, both grown side by side.
+//! The places of all choices of two parts of the pans as two sorted lists, grown side by side in two lent rooms.
 #![tactic(auto)]
 
 mod pair;

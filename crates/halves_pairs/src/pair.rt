@@ -1,4 +1,4 @@
-// Two parts of the pans grown side by side, each in a room of its own: neither merge waits for the other.
+//! Two parts of the pans grown in one loop, so that the processor works on both merges at once.
 ghost use Rattle.std.specs.Prelude.{◌≡◌, ℕ, ◌+◌, ◌^◌, ◌≤◌, length};
 ghost use Rattle.halves_growth.specs.Entries.{Grown, Merged, Sorted};
 ghost use Rattle.halves_growth.specs.Part.{Part};
@@ -7,7 +7,7 @@ use crate::sizes::Sizes;
 use halves_growth::{Merge, Pan, above, all_shut, grow, merge, openable};
 use halves_places::Pans;
 
-// Merges the entries of both parts, turn by turn as `merge` does, so it is a `while` too.
+// Merges the entries of both parts in one loop until one merge ends, then the rest of each.
 fn merge_both(front: &mut [u64], first: Merge, back: &mut [u64], second: Merge)
     requires front_room { first.kept + first.added ≤ length front.old }
     requires back_room { second.kept + second.added ≤ length back.old }
@@ -21,18 +21,18 @@ fn merge_both(front: &mut [u64], first: Merge, back: &mut [u64], second: Merge)
     let mut p = second.kept;
     let mut q = second.added;
     while j > 0 && q > 0 {
-        let kept = front[i - 1];
-        let added = front[j - 1] + first.gain;
-        let held = back[p - 1];
-        let raised = back[q - 1] + second.gain;
-        front[i + j - 1] = kept.max(added);
-        back[p + q - 1] = held.max(raised);
-        let keeps = above(kept, added);
-        let holds = above(held, raised);
-        i -= keeps;
-        j -= 1 - keeps;
-        p -= holds;
-        q -= 1 - holds;
+        let front_kept = front[i - 1];
+        let front_added = front[j - 1] + first.gain;
+        let back_kept = back[p - 1];
+        let back_added = back[q - 1] + second.gain;
+        front[i + j - 1] = front_kept.max(front_added);
+        back[p + q - 1] = back_kept.max(back_added);
+        let front_keeps = above(front_kept, front_added);
+        let back_keeps = above(back_kept, back_added);
+        i -= front_keeps;
+        j -= 1 - front_keeps;
+        p -= back_keeps;
+        q -= 1 - back_keeps;
     }
     merge(
         front,
@@ -52,7 +52,7 @@ fn merge_both(front: &mut [u64], first: Merge, back: &mut [u64], second: Merge)
     );
 }
 
-// One pan more in each part.
+// Takes one more pan into each part.
 fn grow_both(
     front: &mut [u64],
     first: Pan,
@@ -68,23 +68,23 @@ fn grow_both(
     ensures front { Grown to first.way first.gain front.old front.new sizes.front result.front }
     ensures back { Grown to second.way second.gain back.old back.new sizes.back result.back }
 {
-    if first.way.stays && second.way.stays {
-        let added = openable(&front[..sizes.front], first, to);
-        let raised = openable(&back[..sizes.back], second, to);
+    if first.way.young && second.way.young {
+        let front_added = openable(&front[..sizes.front], first, to);
+        let back_added = openable(&back[..sizes.back], second, to);
         let one = Merge {
             kept: sizes.front,
-            added,
+            added: front_added,
             gain: first.gain,
         };
         let other = Merge {
             kept: sizes.back,
-            added: raised,
+            added: back_added,
             gain: second.gain,
         };
         merge_both(front, one, back, other);
         Sizes {
-            front: sizes.front + added,
-            back: sizes.back + raised,
+            front: sizes.front + front_added,
+            back: sizes.back + back_added,
         }
     } else {
         let grown = grow(front, sizes.front, first, to);
@@ -96,8 +96,10 @@ fn grow_both(
     }
 }
 
-// Fills the rooms of two parts of as many pans each, the front part's pans before those of the back part; gives how many
-// entries there are.
+/// Fills two rooms with the places of all choices by the ways of two parts, sorted, and answers how many there are.
+///
+/// The parts have as many pans each, at most 12, and those of `front` stand before those of `back`. What is not below `to`
+/// may be left out. Each room may hold anything, and has at least 2^n places for n pans of a part.
 pub fn both(
     front: Pans,
     back: Pans,
@@ -116,7 +118,7 @@ pub fn both(
     front_room[0] = all_shut(count, count);
     back_room[0] = all_shut(count, 0);
     let mut sizes = Sizes { front: 1, back: 1 };
-    // Counted down, since a number stands for a pan of each part and says how many stand behind it.
+    // Counted down: `k` is a pan of each part, and tells how many stand behind it.
     for k in (0..count).rev() {
         let after = count - 1 - k;
         let first = Pan::of(front, k, count + after);

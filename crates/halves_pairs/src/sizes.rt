@@ -1,8 +1,10 @@
-// How far two parts of the pans fill a room.
+//! How many entries two parts of the pans have.
 
-// So many entries of the front part and of the back part: each fills the front of a room that its caller holds.
+/// How many entries two parts have, each at the front of its room.
 #[derive(Clone, Copy)]
 pub struct Sizes {
+    /// Those of the front part.
     pub front: usize,
+    /// Those of the back part.
     pub back: usize,
 }

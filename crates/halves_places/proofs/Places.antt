@@ -1,4 +1,4 @@
--- Laws of places: what a place is made of, its bounds, and that the order of choices is the order of their places.
+-- Laws of places: their parts, their bounds, and that the order of choices is the order of their places.
 use Rattle.std.proofs.Common.{◌≡◌, ℕ, suc, ◌+◌, ◌*◌, ◌/◌, ◌%◌, ◌^◌, ◌<◌, ◌≤◌, true, false, cond, ◌&&◌, ◌||◌, eqb, ltb, List, [], ◌∷◌, length, get_or, sym, refl, ap, ◌∙◌, arith, pow_mono}
 use native.Mathlib.Nat.{pow-succ'}
 use Rattle.std.proofs.lemmas.Bool.Decides.{nat_tests}
@@ -12,7 +12,7 @@ use Rattle.order.proofs.Orders.{better_is}
 use Rattle.halves_places.specs.Place.{by_ways, place, pans_in}
 use Rattle.halves_places.specs.declared.way.Way.{Way}
 
--- which pans are shut, as a number with b pans behind
+-- the bits of the shut pans, with b pans behind
 abbrev pub shut : ℕ → Choice → ℕ
 shut b [] = 0
 shut b (c ∷ cs) = cond c 0 (2 ^ (b + length cs)) + shut b cs
@@ -38,7 +38,7 @@ place_is b (w ∷ ws) [] e = absurd (omega arith)
 place_is b (w ∷ ws) (true ∷ cs) e = omega (arith, place_is b ws cs (omega arith))
 place_is b (w ∷ ws) (false ∷ cs) e = omega (arith, place_is b ws cs (omega arith))
 
--- the digits of a place, whatever is added below the pans
+-- the parts of a place, whatever is added in the lowest bits
 pub digits : (w o s : ℕ) → o < 32 → s < 2 ^ 24 → ((w * 2 ^ 29 + o * 2 ^ 24 + s) / 2 ^ 29 ≡ w) × (pans_in (w * 2 ^ 29 + o * 2 ^ 24 + s) ≡ o) × ((w * 2 ^ 29 + o * 2 ^ 24 + s) % 2 ^ 24 ≡ s)
 digits w o s h l = (omega arith, omega arith, omega arith)
 
@@ -46,7 +46,7 @@ digits w o s h l = (omega arith, omega arith, omega arith)
 pub shut_le : (b : ℕ) (cs : Choice) → b + length cs < 24 → 2 ^ (b + length cs) ≤ 2 ^ 24
 shut_le b cs h = omega (arith, pow_below (b + length cs) 24 h)
 
--- what the place of some pans says of them, with r below
+-- the weight and the count in the place of some pans, with r in the lowest bits
 pub in_place : (b r : ℕ) (ws : List ℕ) (cs : Choice) → length cs ≡ length ws → length ws ≤ 24 → r + 2 ^ (b + length ws) ≤ 2 ^ 24 → ((place b ws cs + r) / 2 ^ 29 ≡ weight_of ws cs) × (pans_in (place b ws cs + r) ≡ opened cs)
 in_place b r ws cs e few h =
     let s : shut b cs + r < 2 ^ 24 = omega (arith, shut_below b cs, ap (λ (n : ℕ). 2 ^ (b + n)) e) in
@@ -61,7 +61,7 @@ place_below b (w ∷ ws) [] light h e = absurd (omega arith)
 place_below b (w ∷ ws) (true ∷ cs) light h e = omega (arith, light 0, place_below b ws cs (λ i. light (suc i)) (omega arith) (omega arith))
 place_below b (w ∷ ws) (false ∷ cs) light h e = omega (arith, shut_le b cs (omega arith), place_below b ws cs (λ i. light (suc i)) (omega arith) (omega arith))
 
--- which pans are shut and which are opened, as numbers
+-- the bits of the shut and of the opened pans make all bits
 pub shut_code : (cs : Choice) → shut 0 cs + code cs + 1 ≡ 2 ^ length cs
 shut_code [] = refl
 shut_code (true ∷ cs) = rw (pow-succ' 2 (length cs)) (omega (arith, shut_code cs))
@@ -84,7 +84,7 @@ better_place ws cs ds few e f =
     (by_digits (weight_of ws cs) (opened cs) (shut 0 cs) (code cs) (weight_of ws ds) (opened ds) (shut 0 ds) (code ds) (omega (arith, opened_le cs)) (omega (arith, opened_le ds))
     (omega (arith, shut_code cs)) (omega (arith, shut_code ds)) (omega (arith, shut_code cs, shut_code ds)))
 
--- what a whole choice's place says of it
+-- the weight and the count in the place of a choice of all pans
 pub place_says :
     (ws : List ℕ) (cs : Choice) → length ws ≤ 24 → length cs ≡ length ws →
     (place 0 ws cs / 2 ^ 29 ≡ weight_of ws cs) × (pans_in (place 0 ws cs) ≡ opened cs) × (place 0 ws cs % 2 ^ 24 ≡ shut 0 cs)

@@ -1,4 +1,4 @@
--- From a place back to the choice, and from a rule to ways.
+-- From a place back to its choice, and from a rule to ways.
 use Rattle.std.proofs.Common.{◌≡◌, ℕ, zero, suc, ◌+◌, ◌-◌, ◌*◌, ◌%◌, ◌^◌, ◌<◌, ◌≤◌, Bool, true, false, ◌&&◌, ltb, leb, List, [], ◌∷◌, length, get_or, take, sym, refl, ap, ◌∙◌, mul_assoc, arith}
 use Rattle.std.proofs.lemmas.Nat.{pow-add, mod_low}
 use Rattle.std.proofs.lemmas.List.{length-take-le, get_or-take, same_lists}
@@ -10,7 +10,7 @@ use Rattle.halves_places.specs.Ring.{way, ways}
 use Rattle.halves_places.specs.declared.way.Way.{Way}
 use Rattle.halves_places.proofs.Places.{shut, shut_code, place_is}
 
--- the lowest bits of a place say which pans are shut, and so which are opened
+-- the lowest bits of a place tell which pans are shut, and so which are opened
 pub lowest : (ws : List ℕ) (cs : Choice) (n : ℕ) → n ≤ 24 → length ws ≡ n → length cs ≡ n → 2 ^ n - 1 - place 0 ws cs % 2 ^ n ≡ code cs
 lowest ws cs n few e f =
     let p : 2 ^ length cs ≡ 2 ^ n = ap (λ (m : ℕ). 2 ^ m) f in
@@ -25,7 +25,7 @@ pub opened_pans : (ws : List ℕ) (cs : Choice) (n : ℕ) → n ≤ 24 → lengt
 opened_pans ws cs n few e f =
     rw (lowest ws cs n few e f) (ap number_of (ap (λ (m : ℕ). choice_of m (code cs)) (sym f) ∙ choice_of_code cs))
 
--- a choice by a ring's ways opens no empty pan and every old one
+-- a choice is by a ring's ways just where it opens no empty pan and every old one
 pub by_ring : (old : ℕ) (ws as' : List ℕ) (cs : Choice) → length as' ≡ length ws → length cs ≡ length ws → by_ways (ways old ws as') cs ≡ (none_empty ws cs && keeps_old old as' cs)
 by_ring old [] [] [] e f = refl
 by_ring old [] [] (c ∷ cs) e f = absurd (omega arith)

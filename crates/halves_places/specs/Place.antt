@@ -1,7 +1,8 @@
 -- A choice's place in the order as one number that adds up over the pans. Assumes nothing: these are definitions.
---   by_ways      the choice opens only pans that may be opened, and leaves shut only those that may stay shut
---   place        what a choice's pans add, with b pans behind them: grams first, then opened pans, then which are shut
---   pans_in      how many opened pans a place says
+--   by_ways      the choice opens only pans that may be opened, and leaves only young ones shut
+--   place        the sum over some pans with b pans behind them: an opened pan adds its weight from bit 29 on and 1 from bit
+--                24 on, a shut pan a bit of its own, which is bit k where k pans stand behind it
+--   pans_in      how many opened pans a place tells of
 use Rattle.std.specs.Prelude.{ℕ, ◌+◌, ◌*◌, ◌/◌, ◌%◌, ◌^◌, Bool, true, false, cond, ◌&&◌, List, [], ◌∷◌, length}
 use Rattle.choices.specs.Choice.{Choice}
 use Rattle.halves_places.specs.declared.way.Way.{Way}
@@ -10,7 +11,7 @@ abbrev pub by_ways : List Way → Choice → Bool
 by_ways [] [] = true
 by_ways [] (c ∷ cs) = false
 by_ways (v ∷ vs) [] = false
-by_ways (v ∷ vs) (c ∷ cs) = cond c v.opens v.stays && by_ways vs cs
+by_ways (v ∷ vs) (c ∷ cs) = cond c v.opens v.young && by_ways vs cs
 
 abbrev pub place : ℕ → List ℕ → Choice → ℕ
 place b [] cs = 0

@@ -1,12 +1,14 @@
-// The pans that a choice is made of, with what may be done with each.
+//! Pans, with what may be done with each.
 ghost use Rattle.std.specs.Prelude.{◌≡◌, ℕ, ◌≤◌, length, take, drop, slice_index};
 
 use crate::way::Way;
 
-// At most 24 pans, each with what lies in it and its way: two lists, since the weights are lent and the ways made for one bag.
+/// At most 24 pans. They are two lists, since the weights are lent and the ways made for one bag.
 #[derive(Clone, Copy)]
 pub struct Pans<'a> {
+    /// What lies in each pan, at most 1,000,000.
     pub weights: &'a [u32],
+    /// What may be done with each pan.
     pub ways: &'a [Way],
     ghost few: { length weights.now ≤ 24 },
     ghost paired: { length ways.now ≡ length weights.now },
@@ -14,7 +16,7 @@ pub struct Pans<'a> {
 }
 
 impl<'a> Pans<'a> {
-    // The pans before `mid`, and those from it on.
+    /// The pans before `mid`, and those from it on. `mid` is at most the number of pans.
     pub fn split_at(self, mid: usize) -> (Pans<'a>, Pans<'a>)
         requires { mid ≤ length self.weights.now }
         ensures front_weights { result.0.weights.now ≡ take mid self.entry.weights.now }

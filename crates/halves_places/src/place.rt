@@ -1,4 +1,4 @@
-// What a place in the order says of its choice.
+//! What a place tells of its choice.
 ghost use Rattle.std.specs.Prelude.{◌≡◌, ◌/◌, ◌^◌, ◌<◌};
 ghost use Rattle.halves_places.specs.Place.{pans_in};
 ghost use Rattle.halves_places.specs.Ring.{Says};
@@ -6,21 +6,21 @@ ghost use Rattle.halves_places.specs.Ring.{Says};
 use choices::{Ring, number};
 use order::Bag;
 
-// How many pans the choice opens.
+/// How many pans the choice of this place opens.
 pub fn pans_in(place: u64) -> u64
     ensures { result ≡ pans_in place }
 {
     (place >> 24) % 32
 }
 
-// What the opened pans weigh.
+/// What the opened pans of the choice of this place weigh together.
 pub fn weight_in(place: u64) -> u64
     ensures { result ≡ place / 2 ^ 29 }
 {
     place >> 29
 }
 
-// The choice of a ring's pans as it is answered.
+/// The bag of the choice of a ring's pans that has this place: bit `i` of its `pans` is pan `i`. `place` is below 2^61.
 pub fn bag_in(ring: Ring, place: u64) -> Bag
     requires { place < 2 ^ 61 }
     ensures { Says ring.entry.weights.now place result }

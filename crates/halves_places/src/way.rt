@@ -1,8 +1,10 @@
-// What may be done with a pan.
+//! What may be done with a pan.
 
-// Whether the pan may be opened, and whether it may stay shut: all four cases occur.
+/// What may be done with a pan. All four cases occur.
 #[derive(Clone, Copy)]
 pub struct Way {
+    /// The pan may be opened: something lies in it.
     pub opens: bool,
-    pub stays: bool,
+    /// The pan may stay shut: it is not old, which a pan is at the rule's age.
+    pub young: bool,
 }

@@ -1,4 +1,4 @@
--- A choice of all pans is a choice of each part of them: what is opened, what it weighs and its place come together.
+-- A choice of all pans is a choice of each part: the counts, the weights and the places of the parts add up.
 use Rattle.std.proofs.Common.{◌≡◌, ℕ, zero, suc, ◌+◌, ◌-◌, ◌*◌, ◌^◌, ◌≤◌, List, [], ◌∷◌, ◌++◌, length, get_or, take, drop, sym, ap, ◌∙◌, arith, pow_mono}
 use Rattle.std.proofs.lemmas.List.{length-take, length-drop, length-append, drop-drop}
 use Rattle.choices.specs.Choice.{Choice, weight_of, opened}
@@ -31,7 +31,7 @@ pub opened_join : (cs ds : Choice) → opened (cs ++ ds) ≡ opened cs + opened 
 opened_join [] ds = omega arith
 opened_join (c ∷ cs) ds = omega (arith, opened_join cs ds)
 
--- the others weigh at most as much as so many of them can
+-- the other pans weigh at most as much as so many of them can
 pub short_from :
     (lim : Bounds) (ws : List ℕ) (skip len : ℕ) (most short : List ℕ) → skip + len ≤ length ws → lim.limit ≤ 24 → Most (take skip ws ++ drop (skip + len) ws) most →
     ((c : ℕ) → c ≤ lim.limit → get_or short c 0 ≡ (lim.least - get_or most (lim.limit - c) 0) * 2 ^ 29) → Short lim ws skip len short
@@ -63,7 +63,7 @@ short_from lim ws skip len most short room few most-of made cs h =
         (omega (arith, opened_join us ds, opens, h.few)) (omega arith) in
         omega (arith, g, weight_join (take skip ws) (drop (skip + len) ws) us ds first_long)
 
--- what is within the bounds passes the sieve
+-- each part of a choice within the bounds passes the sieve
 pub thinned_from :
     (lim : Bounds) (ws : List ℕ) (skip len : ℕ) (short old es : List ℕ) (n r : ℕ) → Short lim ws skip len short → Sieved short old es n r → Thinned lim ws skip len old es n r
 thinned_from lim ws skip len short old es n r h g =

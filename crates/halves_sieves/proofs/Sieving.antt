@@ -1,4 +1,4 @@
--- A sieve that moves what is kept to the front: what is settled, and what is still to be read.
+-- A sieve that moves what is kept to the front: the entries kept so far, and those still to be read.
 use Rattle.std.proofs.Common.{◌≡◌, ℕ, ◌+◌, ◌-◌, ◌<◌, ◌≤◌, ◌⊎◌, List, length, get_or, set, sym, refl, ap, ◌∙◌, inl, inr, ⊎_elim, arith}
 use Rattle.std.proofs.lemmas.List.{get_or-set_same, get_or-set_other}
 use Rattle.std.proofs.lemmas.Bool.{cases_eq}
@@ -6,7 +6,7 @@ use Rattle.halves_places.specs.Place.{pans_in}
 use Rattle.halves_growth.specs.Entries.{Rises, Holds}
 use Rattle.halves_sieves.specs.Sieve.{Kept, Sieved}
 
--- of the first i entries those that are kept are the first k
+-- i entries are read, and those of them that are kept are the first k
 pub record Sieving (short : List ℕ) (old es : List ℕ) (n i k : ℕ) : Type 0 where
   pub behind : k ≤ i
   pub unread : (p : ℕ) → i ≤ p → get_or es p 0 ≡ get_or old p 0
@@ -64,7 +64,7 @@ sieving_all short old es n i k h e =
     let g = rw e at h in
     record { fewer = g.behind; rises = g.rises; keeps = g.keeps; only = g.only; lean = g.lean; rest = g.unread }
 
--- the test as it is worked out: k is 1 where the entry is too little
+-- the test as the code works it out: k is 1 where the entry is too low
 pub kept_or_not :
     (short : List ℕ) (x y left k : ℕ) → x ≡ y → {p : ℕ} → p ≡ pans_in x → ((k ≡ 1) × (x < get_or short p 0)) ⊎ ((k ≡ 0) × (get_or short p 0 ≤ x)) →
     ((left + (1 - k) ≡ left + 1) × Kept short y) ⊎ ((left + (1 - k) ≡ left) × (Kept short y → ⊥))

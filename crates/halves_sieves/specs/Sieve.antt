@@ -1,12 +1,12 @@
 -- What a part of the pans keeps. Assumes nothing: these are definitions.
---   part         so many of a list, behind the first `skip`
+--   part         `len` items of a list, behind the first `skip`
 --   Bounded      a choice of all pans opens at most as many as the bounds allow, and weighs enough
---   Most         by how many pans are opened at most, what they weigh at most
---   Short        by how many pans an entry of the part opens, the least place that a choice within the bounds has there
---   Kept         an entry is not below that
---   Sieved       of the first n entries those that are kept, in order, are the first r; behind them nothing changes
---   Thinned      of the first n entries the first r are left, in order, with every one that a choice within the bounds has;
---                behind them nothing changes
+--   Most         `most`, by a count of pans, is the most that so many pans weigh together
+--   Short        `short`, by a count of pans, is no more than the part of any choice within the bounds weighs, as a place
+--   Kept         an entry is no less than `short` says for its count of pans
+--   Sieved       the first r entries are those of the first n that are kept, sorted; behind the n nothing changes
+--   Thinned      the first r entries are some of the first n, sorted, with each that is part of a choice within the bounds;
+--                behind the n nothing changes
 use Rattle.std.specs.Prelude.{◌≡◌, ℕ, ◌+◌, ◌*◌, ◌^◌, ◌<◌, ◌≤◌, List, length, take, drop, slice_index}
 use Rattle.choices.specs.Choice.{Choice, weight_of, opened}
 use Rattle.halves_places.specs.Place.{place, pans_in}

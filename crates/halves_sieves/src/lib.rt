@@ -1,4 +1,5 @@
-// What is not worth keeping is sieved out of a part of the pans.
+//! What no allowed choice needs is sieved out of a part's entries: what opens too many pans, or is too light even with the
+//! heaviest other pans.
 #![tactic(auto)]
 
 mod bounds;

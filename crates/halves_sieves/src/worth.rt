@@ -1,4 +1,4 @@
-// Which entries of a part of the pans are worth keeping.
+//! Which entries of a part of the pans are worth keeping.
 ghost use Rattle.std.specs.Prelude.{◌≡◌, ℕ, ◌-◌, ◌*◌, ◌^◌, ◌<◌, ◌≤◌, slice_index};
 ghost use Rattle.halves_sieves.specs.Sieve.{Short};
 
@@ -7,7 +7,7 @@ use crate::most::with_pans;
 use crate::span::Span;
 use std::array;
 
-// Where so many pans are opened, the least place that is enough with the most that may still be opened beside them.
+// The least place an entry with `opened` pans needs so that the heaviest remaining pans can still reach the least weight.
 fn short(most: &[u64; 25], bounds: Bounds, opened: usize) -> u64
     requires { bounds.limit ≤ 24 }
     ensures within { opened ≤ bounds.limit → result ≡ (bounds.least - slice_index most.now (bounds.limit - opened)) * 2 ^ 29 }
@@ -21,7 +21,10 @@ fn short(most: &[u64; 25], bounds: Bounds, opened: usize) -> u64
     }
 }
 
-// The same by how many pans an entry of a span of them opens, where the others may be opened beside it.
+/// For each count of pans that an entry of a span may open, the least place that makes it worth keeping.
+///
+/// From there on, the heaviest of all other pans, as many as the limit leaves, can bring it to the least weight. Counts
+/// above the limit, which is at most 24, have 2^64 - 1.
 pub fn worth(span: Span, bounds: Bounds) -> [u64; 32]
     requires { bounds.limit ≤ 24 }
     ensures { Short bounds span.entry.pans.weights.now span.entry.skip span.entry.len result }

@@ -1,4 +1,4 @@
--- What a sweep over two lists in order keeps from step to step: what is passed is settled.
+-- What a sweep over two sorted lists keeps from step to step: the entries that it has passed are settled.
 use Rattle.std.proofs.Common.{◌≡◌, ℕ, ◌+◌, ◌-◌, ◌<◌, ◌≤◌, min, ◌⊎◌, List, length, get_or, set, refl, ◌∙◌, inl, inr, ⊎_elim, arith}
 use Rattle.std.proofs.lemmas.List.{get_or_default, get_or-set_same, get_or-set_other, length-set}
 use Rattle.std.proofs.lemmas.Bool.{cases_lt, cases_eq}
@@ -7,7 +7,7 @@ use Rattle.halves_sweeps.specs.Sweep.{Any, Pair}
 use Rattle.halves_sweeps.specs.Lane.{Strides, Strode, Swept}
 use Rattle.halves_sweeps.specs.declared.lane.Lane.{Lane}
 
--- one step, by what the sum of the two entries is
+-- one step, by whether the sum of the two entries is large enough
 module _ (fs bs : List ℕ) (front_rises : Rises fs (length fs)) (back_rises : Rises bs (length bs)) (x : Lane) (h : Swept fs bs x) (behind : x.at < length bs) (front : 0 < x.left) (sum : ℕ) (is : sum ≡ get_or bs x.at 0 + get_or fs (x.left - 1) 0) where
   light : (p q : ℕ) → q ≡ x.at → p < x.left → get_or fs p 0 + get_or bs q 0 ≤ sum
   light p q e l = rw e (omega (arith, front_rises p (x.left - 1) (omega arith) (omega (arith, h.front))))
@@ -60,7 +60,7 @@ module _ (fs bs : List ℕ) (front_rises : Rises fs (length fs)) (back_rises : R
       fresh : f ≡ sum → Pair Any fs bs x.from f
       fresh d = record { p = x.left - 1; q = x.at; front = omega (arith, h.front); back = behind; right = tt; enough = omega arith; adds = omega arith }
 
-  -- as the step is worked out: k is what the index behind moves by
+  -- the step as the code works it out: the index of the back list moves by k
   pub strode_one :
       (k f : ℕ) → ((k ≡ 1) × (sum < x.from)) ⊎ ((k ≡ 0) × (x.from ≤ sum)) → (sum < x.from → f ≡ x.found) → (x.from ≤ sum → f ≡ min x.found sum) →
       Strode fs bs x (record { from = x.from; to = x.to; at = x.at + k; left = x.left - 1 + k; found = f }) 1
@@ -84,15 +84,15 @@ strode_more fs bs x y z k m h g =
       swept = g.swept;
     }
 
--- the same of four
+-- the same of four sweeps
 pub strides_more : (fs bs : List ℕ) (xs ys zs : List Lane) (k m : ℕ) → Strides fs bs xs ys k → Strides fs bs ys zs m → Strides fs bs xs zs (k + m)
 strides_more fs bs xs ys zs k m h g = record { long = g.long; each = λ i d l. strode_more _ _ _ _ _ _ _ (h.each i d l) (g.each i d l) }
 
--- how much is left at most to the first of them, which a step makes less
+-- how many steps the first of them can still take at most: each step makes it less
 abbrev pub ahead : List ℕ → List Lane → ℕ
 ahead bs xs = let x : Lane = get_or xs 0 (record { from = 0; to = 0; at = 0; left = 0; found = 0 }) in (length bs - x.at) + x.left
 
--- in a turn the first n have taken one step more
+-- within a turn the first n sweeps have taken one step more
 pub record Turning (fs bs : List ℕ) (xs ys : List Lane) (k n : ℕ) : Type 0 where
   pub long : length ys ≡ 4
   pub turned : (i : ℕ) (d : Lane) → i < n → i < 4 → Strode fs bs (get_or xs i d) (get_or ys i d) (k + 1)

@@ -1,8 +1,8 @@
 -- Sweeps as far as they have come. Assumes nothing: these are definitions.
---   Swept        what a sweep knows: the sums of all entries that are settled are no less than what it found, or too little
---   Fresh        a sweep that has not begun, for what is sought together with a top
+--   Swept        what a sweep knows: each sum of a settled entry is too small, or no less than the least sum so far
+--   Fresh        a sweep that has not begun, for sums that are from `from` on and below `to` together with a top
 --   Strode       a sweep k steps further on
---   Free         a sweep that has k steps left for certain
+--   Free         a sweep that can take at least k steps
 --   Strides      four sweeps, each k steps further on
 use Rattle.std.specs.Prelude.{◌≡◌, ℕ, ◌+◌, ◌-◌, ◌<◌, ◌≤◌, ◌⊎◌, List, length, slice_index, slice_index_or}
 use Rattle.halves_sweeps.specs.Sweep.{Any, Pair}

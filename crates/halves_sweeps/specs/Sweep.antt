@@ -1,14 +1,14 @@
--- What sweeps over lists of places find. Assumes nothing: these are definitions.
---   Any          two entries, whatever they open
---   Meets        an entry of the back list and one of the front list are of the band's counts
---   Few          two entries open together at most so many pans
---   Pair         an entry of each list that are right together, with the sum x, from `from` on
---   LeastSum    the least sum from `from` on, below `to`, of an entry of each list that are right together; or `to`
---   Triple       a top, and an entry of each list that are right with it, with the sum x, from `from` on
---   LeastOf     the least sum of one of the first k tops and an entry of each list, from `from` on and below `to`; or `to`
---   Whatever     a top and two entries, whatever they open
---   Together     a top and two entries open together at most so many pans
---   Apart        the counts of a top and of an entry of each list add up in their sum
+-- What sweeps over two lists of places find. Assumes nothing: these are definitions.
+--   Any          two entries, however many pans they open
+--   Meets        two entries, of the back and the front list, that open as many pans as the band says
+--   Few          two entries that together open at most `limit` pans
+--   Pair         an entry of each list that are `ok` together and have the sum x, which is `from` or more
+--   LeastSum     the least sum, from `from` on and below `to`, of an entry of each list that are `ok`; `to`: there is none
+--   Triple       the same as Pair of one of the first k tops and an entry of each list
+--   LeastOf      the same as LeastSum of one of the first k tops and an entry of each list
+--   Whatever     a top and two entries, however many pans they open
+--   Together     a top and two entries that together open at most `limit` pans
+--   Apart        the counts of pans in a top and an entry of each list add up in their sum
 use Rattle.std.specs.Prelude.{◌≡◌, ℕ, ◌+◌, ◌<◌, ◌≤◌, List, length, slice_index, slice_index_or}
 use Rattle.halves_places.specs.Place.{pans_in}
 use Rattle.halves_sweeps.specs.declared.band.Band.{Band}

@@ -1,4 +1,4 @@
-// Sweeps with an eye to how many pans are opened.
+//! Sweeps that look at how many pans are opened.
 ghost use Rattle.std.specs.Prelude.{ℕ, ◌+◌, ◌<◌, ◌≤◌, length};
 ghost use Rattle.halves_sweeps.specs.Sweep.{Few, LeastOf, LeastSum, Meets, Together};
 
@@ -6,14 +6,14 @@ use crate::band::Band;
 use crate::lists::Lists;
 use halves_places::pans_in;
 
-// Goes up the back list and down the front list, past all that is not of the band.
+// Goes up the back list and down the front list, past each entry that opens too many or too few pans for the band.
 fn sweep(lists: Lists, band: Band, from: u64, to: u64) -> u64
     ensures { LeastSum (Meets band) lists.entry.front.now lists.entry.back.now from to result }
 {
     let mut i = 0;
     let mut j = lists.front.len();
     let mut found = to;
-    // By index: with what is left of both lists as slices, split at an end each turn, a call took a seventh longer.
+    // By index: slices that are split at an end in each turn took a seventh longer.
     while i < lists.back.len() && j > 0 {
         let a = lists.back[i];
         let b = lists.front[j - 1];
@@ -31,7 +31,7 @@ fn sweep(lists: Lists, band: Band, from: u64, to: u64) -> u64
     found
 }
 
-// One sweep for each count of pans in the back list, each below what was found before.
+// One sweep for each count of pans in the back list, each for sums below the least found before.
 fn counted(lists: Lists, limit: u64, from: u64, to: u64) -> u64
     ensures { LeastSum (Few limit) lists.entry.front.now lists.entry.back.now from to result }
 {
@@ -46,7 +46,7 @@ fn counted(lists: Lists, limit: u64, from: u64, to: u64) -> u64
     found
 }
 
-// The same beside a top, which opens some of the pans itself.
+// The same beside a top, which opens some of the `limit` pans itself.
 fn beside(top: u64, lists: Lists, limit: u64, from: u64, to: u64) -> u64
     ensures { LeastSum (Together limit top) lists.entry.front.now lists.entry.back.now from to result }
 {
@@ -58,7 +58,9 @@ fn beside(top: u64, lists: Lists, limit: u64, from: u64, to: u64) -> u64
     }
 }
 
-// The least sum within the limit, top after top.
+/// The least sum of a top and an entry of each list that opens at most `limit` pans, from `from` on and below `to`.
+///
+/// Answers `to` where there is none. Takes as many sweeps for each top as there are counts.
 pub fn fewest(tops: &[u64], lists: Lists, limit: u64, from: u64, to: u64) -> u64
     ensures { LeastOf (Together limit) (length tops.now) tops.now lists.entry.front.now lists.entry.back.now from to result }
 {

@@ -1,4 +1,4 @@
-// Four sweeps side by side: up the back list and down the front list.
+//! Four sweeps in one loop, so that the processor works on all at once. Each goes up the back list and down the front list.
 ghost use Rattle.std.specs.Prelude.{◌≡◌, ℕ, ◌+◌, ◌-◌, ◌<◌, ◌≤◌, ◌⊎◌, length, slice_index};
 ghost use Rattle.std.specs.List.{All};
 ghost use Rattle.halves_sweeps.specs.Lane.{Free, Fresh, Strides, Strode, Swept};
@@ -9,7 +9,7 @@ use crate::lists::Lists;
 use halves_growth::above;
 use std::array;
 
-// A sweep that has not begun, for what comes below `to` from `from` on together with the top.
+// A sweep that has not begun, for sums that are from `from` on and below `to` together with `top`.
 fn fresh(top: u64, front: usize, from: u64, to: u64) -> Lane
     ensures { Fresh top front from to result }
 {
@@ -23,8 +23,7 @@ fn fresh(top: u64, front: usize, from: u64, to: u64) -> Lane
     }
 }
 
-// Looks at one sum more: where it is too little, so are those of the same entry behind with what is left in front; where it
-// is enough, those of the same entry in front with what is left behind are no less.
+// Tests one pair. If the sum is too small, advances in the back list; else records it and steps down the front list.
 fn step(lane: Lane, lists: Lists) -> Lane
     requires swept { Swept lists.front.now lists.back.now lane }
     requires behind { lane.at < length lists.back.now }
@@ -47,7 +46,7 @@ fn step(lane: Lane, lists: Lists) -> Lane
     }
 }
 
-// How many steps are left for certain, over so many entries behind.
+// How many steps a sweep can take at least, where the back list has `back` entries.
 fn free(lane: Lane, back: usize) -> usize
     requires { lane.at ≤ back }
     ensures behind { lane.at + result ≤ back }
@@ -56,7 +55,7 @@ fn free(lane: Lane, back: usize) -> usize
     (back - lane.at).min(lane.left)
 }
 
-// So many steps of all four.
+// Takes `steps` steps of all four sweeps.
 fn stride(lanes: [Lane; 4], lists: Lists, steps: usize) -> [Lane; 4]
     requires { All (Free lists.front.now lists.back.now steps) lanes }
     ensures { Strides lists.entry.front.now lists.entry.back.now lanes result steps }
@@ -70,7 +69,7 @@ fn stride(lanes: [Lane; 4], lists: Lists, steps: usize) -> [Lane; 4]
     run
 }
 
-// How many steps are left for certain to all four.
+// How many steps each of the four can take at least.
 fn all_free(lanes: &[Lane; 4], back: usize) -> usize
     requires { All (λ x. x.at ≤ back) lanes.now }
     ensures { All (λ x. (x.at + result ≤ back) × (result ≤ x.left)) lanes.now }
@@ -82,7 +81,7 @@ fn all_free(lanes: &[Lane; 4], back: usize) -> usize
     steps
 }
 
-// Steps of all four, as far as none of them ends.
+// Takes steps of all four until one of them is at its end.
 fn side_by_side(lanes: [Lane; 4], lists: Lists) -> [Lane; 4]
     requires { All (Swept lists.front.now lists.back.now) lanes }
     ensures { (k : ℕ) × Strides lists.entry.front.now lists.entry.back.now lanes result k }
@@ -96,7 +95,7 @@ fn side_by_side(lanes: [Lane; 4], lists: Lists) -> [Lane; 4]
     run
 }
 
-// Goes on with one sweep to its end: where it stands is the sweep's own state, which other steps have moved before.
+// Takes one sweep to its end.
 fn finish(lane: Lane, lists: Lists) -> u64
     requires { Swept lists.front.now lists.back.now lane }
     ensures { LeastSum Any lists.entry.front.now lists.entry.back.now lane.from lane.to result }
@@ -108,14 +107,14 @@ fn finish(lane: Lane, lists: Lists) -> u64
     run.found
 }
 
-// The least sum for a top alone.
+// The least sum beside one top.
 fn alone(top: u64, lists: Lists, from: u64, to: u64) -> u64
     ensures { LeastSum Any lists.entry.front.now lists.entry.back.now (from - top) (to - top) result }
 {
     finish(fresh(top, lists.front.len(), from, to), lists)
 }
 
-// The least sum for each of the tops, of which there are one to four, by four sweeps side by side.
+// The least sum beside each of one to four tops, by four sweeps in one loop; the last top stands in for those missing.
 fn four(tops: &[u64], lists: Lists, from: u64, to: u64) -> [u64; 4]
     requires some { 0 < length tops.now }
     requires few { length tops.now ≤ 4 }
@@ -127,13 +126,16 @@ fn four(tops: &[u64], lists: Lists, from: u64, to: u64) -> [u64; 4]
     array::from_fn(|t| finish(run[t], lists))
 }
 
-// The least sum for each of the tops, of which there are at most four. One alone has no others run beside it.
+/// For each of at most four tops, the least sum of an entry of each list that with the top is from `from` on, below `to`.
+///
+/// Where a top has none, its answer is `to` less the top. Answers past the last top have no meaning.
 pub fn each(tops: &[u64], lists: Lists, from: u64, to: u64) -> [u64; 4]
     requires { length tops.now ≤ 4 }
     ensures { (t : ℕ) → t < length tops.now → LeastSum Any lists.entry.front.now lists.entry.back.now (from - slice_index tops.now t) (to - slice_index tops.now t) (slice_index result t) }
 {
     match tops {
         [] => [to; 4],
+        // One top alone needs no other sweeps beside it.
         [top] => [alone(*top, lists, from, to); 4],
         _ => four(tops, lists, from, to),
     }

@@ -1,12 +1,16 @@
-// A sweep over two lists as far as it has come.
+//! How far a sweep over two lists has come.
 
-// What is sought lies from `from` on and below `to`. Settled are the entries of the back list before `at`, and those of the
-// front list from `left` on; the least sum so far is `found`, or `to` where there is none.
+/// A sweep for the least sum from `from` on and below `to`. An entry is settled once all its sums are known to be no better.
 #[derive(Clone, Copy)]
 pub struct Lane {
+    /// The least sum that will do.
     pub from: u64,
+    /// All sums have to be below this.
     pub to: u64,
+    /// The entries of the back list before this one are settled.
     pub at: usize,
+    /// The entries of the front list from this one on are settled.
     pub left: usize,
+    /// The least sum so far, or `to` where there is none.
     pub found: u64,
 }

@@ -1,7 +1,5 @@
-// The least sum of a top and an entry of each list within a limit of pans. Where there is none the bound `to` is answered: a
-// minimum starts from it anyway, and an `Option` would be tested at each step. The bounds `from` and `to` stay two parameters, since
-// each moves without the other: the first with each try, the second with what was found; and that there are at most four tops
-// is asked for, since a type for so many would be made here and taken apart at once.
+//! The least sum of a top and an entry of each list that opens few enough pans. Where there is none, `to` is answered: the
+//! minimum starts from it, and an `Option` would be tested at each step.
 ghost use Rattle.std.specs.Prelude.{ℕ, ◌^◌, ◌<◌, ◌≤◌, length, slice_index};
 ghost use Rattle.halves_sweeps.specs.Sweep.{Apart, LeastOf, Together, Whatever};
 
@@ -10,7 +8,7 @@ use crate::four::each;
 use crate::lists::Lists;
 use halves_places::pans_in;
 
-// The least sum of all, whatever it opens.
+// The least sum of all, however many pans it opens.
 fn first(tops: &[u64], lists: Lists, from: u64, to: u64) -> u64
     requires { length tops.now ≤ 4 }
     ensures { LeastOf Whatever (length tops.now) tops.now lists.entry.front.now lists.entry.back.now from to result }
@@ -23,10 +21,13 @@ fn first(tops: &[u64], lists: Lists, from: u64, to: u64) -> u64
     least
 }
 
-// How many times the least sum of all is sought, each from the weight after the last, before the count is looked at.
+// How many weights are tried, from the least on, before sweeps look at how many pans are opened.
 const TRIES: u32 = 3;
 
-// What is found first opens the fewest pans of its weight, so where that is too many the next weight is tried.
+/// The least sum of a top and an entry of each list that opens at most `limit` pans, from `from` on and below `to`.
+///
+/// Answers `to` where there is none. There are at most four tops, each below 2^62, and the counts of pans in a top and an
+/// entry of each list add up in their sum.
 pub fn least(tops: &[u64], lists: Lists, limit: u64, from: u64, to: u64) -> u64
     requires few { length tops.now ≤ 4 }
     requires low { (t : ℕ) → t < length tops.now → slice_index tops.now t < 2 ^ 62 }
@@ -34,6 +35,7 @@ pub fn least(tops: &[u64], lists: Lists, limit: u64, from: u64, to: u64) -> u64
     ensures { LeastOf (Together limit) (length tops.now) tops.now lists.entry.front.now lists.entry.back.now from to result }
 {
     let mut at = from;
+    // The first sum found opens the fewest pans of its weight; if these are too many, the next weight is tried.
     for _ in 0..TRIES {
         let found = first(tops, lists, at, to);
         if found >= to {

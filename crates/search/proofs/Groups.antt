@@ -10,14 +10,14 @@ use Rattle.choices.proofs.Tallies.{Small, tallied_small}
 use Rattle.search.specs.Groups.{part, nothing}
 use Rattle.search.specs.declared.tallies.Tallies.{Tallies}
 
--- a tally is that of the choice k
+-- t is the tally of choice k
 abbrev pub Of : Tallies → ℕ → Tally → Type 0
 Of s k t = Tallied s.ring.weights.now s.ring.ages.now s.ring.rule.age (choice_of (length s.ring.weights.now) k) t
 
 told : (s : Tallies) (i : ℕ) → i < 256 → Of s (part i) (get_or s.groups i nothing)
 told s i h = record { weighs = s.weighs i h; counts = s.counts i h; empties = s.empties i h; olds = s.olds i h }
 
--- the choice x of a group
+-- the entry of choice x: of the last six pans, and of group g
 pub first : (s : Tallies) (x : ℕ) → x < 64 → Of s x (get_or s.groups x nothing)
 first s x h =
     let low : x % 64 ≡ x = omega arith in

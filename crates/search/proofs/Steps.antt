@@ -1,11 +1,11 @@
--- The steps of a search: candidates that are passed over, one that is taken, and what the best so far is then.
+-- How a step changes the best so far: by candidates that are skipped, and by one that is taken.
 use Rattle.std.proofs.Common.{◌≡◌, ℕ, ◌+◌, ◌<◌, ◌≤◌, Bool, true, false, Some, None, Option, refl, inl, inr, arith}
 use Rattle.std.specs.Cmp.{IsStrictWeakOrder}
 use Rattle.std.proofs.lemmas.Bool.{both_ways, cases_lt}
 use Rattle.search.specs.Sought.{Sought, Leads, Passes}
 
 module _ (allows : ℕ → Bool) (beats : ℕ → ℕ → Bool) where
-  -- what is passed over changes nothing
+  -- skipped candidates change nothing
   pub sought_passed :
       (n r : ℕ) (best : Option ℕ) → n ≤ r → Sought allows beats n best →
       ((j : ℕ) → n ≤ j → j < r → Passes allows beats best j) → Sought allows beats r best
@@ -21,7 +21,7 @@ module _ (allows : ℕ → Bool) (beats : ℕ → ℕ → Bool) where
   passes_shut k None e = e
   passes_shut k (Some b) e = λ a. absurd (both_ways (allows k) e a)
 
-  -- one candidate more, of which the best so far has nothing to fear
+  -- a candidate that does not beat the best so far changes nothing
   pub sought_kept : (k : ℕ) (best : Option ℕ) → Sought allows beats k best → Passes allows beats best k → Sought allows beats (k + 1) best
   sought_kept k best h p = sought_passed k (k + 1) best (omega arith) h (λ j le lt. same j (omega arith))
     where

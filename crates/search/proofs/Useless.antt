@@ -1,11 +1,11 @@
--- Five reasons why a block of choices holds nothing of use after its head, and what that means for the search.
+-- Five reasons to skip the rest of a block of choices, and what that means for the search.
 use Rattle.std.proofs.Common.{◌≡◌, ℕ, ◌+◌, ◌-◌, ◌*◌, ◌/◌, ◌%◌, ◌^◌, ◌<◌, ◌≤◌, Bool, true, false, List, length, sym, refl, ◌∙◌, arith}
 use Rattle.std.proofs.lemmas.Bool.{eqb-true}
 use Rattle.std.proofs.lemmas.Nat.{pow_pos, div-add-mod'}
 use Rattle.std.proofs.lemmas.Bool.Decides.{nat_tests}
 use Rattle.choices.specs.Choice.{weight_of, opened, fits}
 use Rattle.choices.specs.Numbered.{choice_of}
-use Rattle.choices.specs.Tallied.{empty_ones, old_ones, waiting_of}
+use Rattle.choices.specs.Tallied.{empty_ones, old_ones, old_count_of}
 use Rattle.choices.specs.declared.rule.Rule.{Rule}
 use Rattle.choices.proofs.Blocks.{opens_weight, last_opens, sum_apart}
 use Rattle.choices.proofs.Choices.{fitting}
@@ -15,7 +15,7 @@ use Rattle.order.specs.Order.{better}
 use Rattle.order.proofs.Orders.{better_numbered}
 use Rattle.search.specs.Block.{Useless}
 
--- the number j of a block as its head and what is added to it
+-- a number j of a block: the head, and what is added to it
 module _ (ws : List ℕ) (head t j : ℕ) (block : head % 2 ^ t ≡ 0) (above : head < j) (below : j < head + 2 ^ t) where
   times : head / 2 ^ t * 2 ^ t ≡ head
   times = omega (arith, div-add-mod' head (2 ^ t))
@@ -37,7 +37,7 @@ module _ (ws : List ℕ) (head t j : ℕ) (block : head % 2 ^ t ≡ 0) (above : 
   opened_more : opened (choice_of (length ws) j) ≡ opened (choice_of (length ws) head) + opened (choice_of (length ws) (j - head))
   opened_more = rw (same, times) at (opened_apart ws (head / 2 ^ t) t (j - head) inside)
 
--- what a choice that fits has, as numbers
+-- a choice that fits opens no empty pan
 filled : (r : Rule) (ws as' : List ℕ) (n j : ℕ) → fits r ws as' (choice_of n j) ≡ true → weight_of (empty_ones ws) (choice_of n j) ≡ 0
 filled r ws as' n j f = eqb-true _ _ (sym (none_empty_is ws (choice_of n j)) ∙ (fitting r ws as' _ f).filled)
 
@@ -67,15 +67,15 @@ module _ (r : Rule) (ws as' : List ℕ) (head t most : ℕ) (block : head % 2 ^ 
   light h j a b f = absurd (omega (arith, sum_last ws head t j block a b ws (length ws), (fitting r ws as' _ f).enough))
 
   pub shut :
-      length as' ≡ length ws → weight_of (old_ones r.age as') (choice_of (length ws) (head + 2 ^ t - 1)) < waiting_of r.age as' →
+      length as' ≡ length ws → weight_of (old_ones r.age as') (choice_of (length ws) (head + 2 ^ t - 1)) < old_count_of r.age as' →
       Useless r ws as' head t most
   shut e h j a b f =
       let cs = choice_of (length ws) j in
-      let all = eqb-true _ _ (sym (keeps_old_is r.age as' cs (length_choice_of (length ws) j ∙ sym e)) ∙ (fitting r ws as' cs f).waited) in
+      let all = eqb-true _ _ (sym (keeps_old_is r.age as' cs (length_choice_of (length ws) j ∙ sym e)) ∙ (fitting r ws as' cs f).old_opened) in
       absurd (omega (arith, sum_last ws head t j block a b (old_ones r.age as') (length ws), all))
 
 module _ (r : Rule) (ws as' : List ℕ) (most j : ℕ) where
-  -- what weighs more than target and above does not fit
+  -- a choice heavier than target + above does not fit
   pub pass_none :
       most ≡ r.target + r.above → (fits r ws as' (choice_of (length ws) j) ≡ true → most < weight_of ws (choice_of (length ws) j)) →
       fits r ws as' (choice_of (length ws) j) ≡ false
@@ -85,6 +85,6 @@ module _ (r : Rule) (ws as' : List ℕ) (most j : ℕ) where
       at false k = k
       at true k = absurd (omega (arith, h k, (fitting r ws as' _ k).within))
 
-  -- what weighs more than the best so far does not beat it
+  -- a choice heavier than the best so far does not beat it
   pub pass_some : (b : ℕ) → most ≡ weight_of ws (choice_of (length ws) b) → most < weight_of ws (choice_of (length ws) j) → better ws (choice_of (length ws) j) (choice_of (length ws) b) ≡ false
   pass_some b e h = rw (better_numbered ws (length ws) j b) (grind (arith, nat_tests))

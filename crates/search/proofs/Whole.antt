@@ -1,4 +1,4 @@
--- From all numbers below 2 ^ n to all choices whatever: every choice that is allowed is one of the numbers.
+-- From all numbers below 2 ^ n to all choices: each allowed choice is one of the numbers.
 use Rattle.std.proofs.Common.{◌≡◌, ℕ, ◌^◌, ◌<◌, Bool, true, false, List, length, sym, refl, ap, ◌∙◌}
 use Rattle.choices.specs.Choice.{Choice}
 use Rattle.choices.specs.Numbered.{choice_of}

@@ -1,5 +1,5 @@
--- When a block of choices holds nothing of use besides its head. Assumes nothing: these are definitions.
---   Useless   no choice after the head of a block of 2 ^ free choices fits and weighs at most so much
+-- When the rest of a block of choices can be skipped. Assumes nothing: these are definitions.
+--   Useless   of the 2 ^ free choices from `head` on, none after the head fits and weighs at most `most`
 use Rattle.std.specs.Prelude.{◌≡◌, ℕ, ◌+◌, ◌^◌, ◌<◌, true, List, length}
 use Rattle.choices.specs.Choice.{weight_of, fits}
 use Rattle.choices.specs.Numbered.{choice_of}

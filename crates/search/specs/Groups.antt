@@ -1,5 +1,5 @@
--- The choices of a group of pans. Assumes nothing: these are definitions.
---   part      the choice whose tally is the entry i: the pans stand in groups of six, and there are 64 choices of each group
+-- The choices of groups of six pans. Assumes nothing: these are definitions.
+--   part      the choice whose tally is entry i: choice x of group g is entry x + 64 * g, and group 0 is the last six pans
 --   nothing   the tally of a choice that opens no pan
 use Rattle.std.specs.Prelude.{ℕ, ◌*◌, ◌/◌, ◌%◌, ◌^◌}
 use Rattle.choices.specs.declared.tally.Tally.{Tally}

@@ -1,8 +1,9 @@
--- What a search over numbered candidates knows, whatever is allowed and whatever is better. Assumes nothing: these are definitions.
---   Leads      of all candidates below n that are allowed, b is one, and none of them beats it
---   Sought     the best of all candidates below n, or that none of them is allowed
---   Passes     a candidate is of no use: it isn't allowed, or doesn't beat the best so far
---   Behind     the best so far, if there is one, lies below n
+-- What a search over numbered candidates knows, whatever is allowed and whatever beats what. Assumes nothing: these are
+-- definitions.
+--   Leads      b is below n and allowed, and no allowed candidate below n beats it
+--   Sought     the best of all candidates below n; None: none of them is allowed
+--   Passes     candidate k can be skipped: it is not allowed, or does not beat the best so far
+--   Behind     the best so far, if there is one, is below n
 use Rattle.std.specs.Prelude.{◌≡◌, ℕ, ◌<◌, Bool, true, false, Some, None, Option}
 
 pub record Leads (allows : ℕ → Bool) (beats : ℕ → ℕ → Bool) (n b : ℕ) : Type 0 where

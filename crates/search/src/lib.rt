@@ -1,4 +1,6 @@
-// The scan: one search over numbered candidates, proved once for every criterion, and the ring's criterion.
+//! The scan: the best bag of a ring by trying its choices one after another, with no lent room.
+//!
+//! `search` is generic over numbered candidates (`Criterion`); `best` is its use for the choices of a ring's pans.
 #![tactic(auto)]
 
 mod criterion;

@@ -1,4 +1,4 @@
-// The ring's criterion: every choice of its pans is a candidate, those that fit the rule are allowed, the better one beats.
+//! The search of a ring: its candidates are the choices of its pans, and those that fit its rule are allowed.
 ghost use Rattle.std.specs.Prelude.{◌≡◌, ℕ, ◌+◌, ◌%◌, ◌^◌, ◌<◌, ◌≤◌, true, length};
 ghost use Rattle.choices.specs.Choice.{fits as fits_rule};
 ghost use Rattle.choices.specs.Numbered.{choice_of};
@@ -13,7 +13,7 @@ use crate::tallies::Tallies;
 use choices::{Ring, number, weight};
 use order::{Bag, Seen, ahead};
 
-// Candidate k is the choice in the bits of k, pan 0 in the highest.
+/// Candidate `k` is the choice in the bits of `k`, with pan 0 in the highest of the ring's bits.
 impl<'a> Criterion for Tallies<'a> {
     ghost count = { λ s. 2 ^ length s.ring.weights.now };
 
@@ -28,14 +28,14 @@ impl<'a> Criterion for Tallies<'a> {
     }
 
     fn allows(&self, k: u64) -> bool {
-        self.tally(k).fits(self.ring.rule, self.waiting)
+        self.tally(k).fits(self.ring.rule, self.old_count)
     }
 
     fn beats(&self, a: u64, b: u64) -> bool {
         ahead(self.ring, seen_of(self, a), seen_of(self, b))
     }
 
-    // A number with zeros at its end heads a block of choices that open what it opens and some of the last pans.
+    // A number with z zeros at its end heads a block of 2^z choices: each opens its pans and some of the last z.
     fn after(&self, k: u64, best: Option<u64>) -> u64 {
         let free = k.trailing_zeros().min(self.ring.weights.len() as u32);
         let most = match best {
@@ -50,7 +50,7 @@ impl<'a> Criterion for Tallies<'a> {
     }
 }
 
-// A candidate by the tallies at hand.
+// What the order compares of candidate `k`.
 fn seen_of(tallies: &Tallies, k: u64) -> Seen
     requires { k < 2 ^ length tallies.now.ring.weights.now }
     ensures chosen { result.choice ≡ k }
@@ -62,9 +62,8 @@ fn seen_of(tallies: &Tallies, k: u64) -> Seen
     }
 }
 
-// Whether no choice of a block after its head fits and weighs at most `most`, since each opens one pan more than the head at
-// least and none that the last does not: the head is as heavy, opens as many or an empty pan; or the last is not
-// enough, or leaves an old pan shut.
+// True if the rest of the block can be skipped: its head is already too heavy or at the pan limit or opens an empty pan,
+// or its fullest choice is too light or leaves an old pan shut.
 fn useless(tallies: &Tallies, head: u64, free: u32, most: u32) -> bool
     requires { (head % 2 ^ free ≡ 0) × (head + 2 ^ free ≤ 2 ^ length tallies.now.ring.weights.now) }
     ensures { result ≡ true → Useless tallies.now.ring.rule tallies.now.ring.weights.now tallies.now.ring.ages.now head free most }
@@ -75,10 +74,14 @@ fn useless(tallies: &Tallies, head: u64, free: u32, most: u32) -> bool
         return true;
     }
     let whole = tallies.tally(head + (1u64 << free) - 1);
-    whole.weight < rule.target || whole.old < tallies.waiting
+    whole.weight < rule.target || whole.old < tallies.old_count
 }
 
-// The best choice of the ring's pans, or none where no choice whatever fits.
+/// The best bag of a ring, or `None` where no choice of its pans fits its rule.
+///
+/// Goes through the choices in the order of their numbers, pan 0 in the highest bit, and skips each block of them that
+/// cannot hold a better one (branch and bound, Land and Doig 1960). Takes no lent room; the time may grow with 2^pans.
+/// Bit `i` of the answer's `pans` is pan `i`.
 pub fn best(ring: Ring) -> Option<Bag>
     ensures { Found (fits_rule ring.entry.rule ring.entry.weights.now ring.entry.ages.now) ring.entry.weights.now result }
 {

@@ -1,27 +1,30 @@
-// A ring with the tallies of its choices at hand, so that a look at any choice takes the same few steps.
+//! Tallies of parts of a ring's choices, made once, so that the tally of any choice takes three additions.
 ghost use Rattle.std.specs.Prelude.{◌≡◌, ℕ, ◌^◌, ◌<◌, length, slice_index_or};
 ghost use Rattle.choices.specs.Choice.{opened, weight_of};
 ghost use Rattle.choices.specs.Numbered.{choice_of};
-ghost use Rattle.choices.specs.Tallied.{Tallied, empty_ones, old_ones, waiting_of};
+ghost use Rattle.choices.specs.Tallied.{Tallied, empty_ones, old_ones, old_count_of};
 ghost use Rattle.search.specs.Groups.{nothing, part as part_at};
 
-use choices::{Ring, Tally, look, waiting};
+use choices::{Ring, Tally, look, old_count};
 
-// The pans stand in four groups of six, the last pans first, and there are 64 choices of each group.
+/// A ring with the tallies of its choices at hand.
+///
+/// The pans stand in four groups of six, the last pans first, and each group has 64 choices.
 #[derive(Clone, Copy)]
 pub struct Tallies<'a> {
+    /// The ring.
     pub ring: Ring<'a>,
-    // How many pans have waited too long.
-    pub waiting: u32,
+    /// How many of its pans are old.
+    pub old_count: u32,
     groups: [Tally; 256],
-    ghost waits: { waiting ≡ waiting_of ring.rule.age ring.ages.now },
+    ghost old_counted: { old_count ≡ old_count_of ring.rule.age ring.ages.now },
     ghost weighs: { (i : ℕ) → i < 256 → (slice_index_or groups i nothing).weight ≡ weight_of ring.weights.now (choice_of (length ring.weights.now) (part_at i)) },
     ghost counts: { (i : ℕ) → i < 256 → (slice_index_or groups i nothing).pans ≡ opened (choice_of (length ring.weights.now) (part_at i)) },
     ghost empties: { (i : ℕ) → i < 256 → (slice_index_or groups i nothing).empty ≡ weight_of (empty_ones ring.weights.now) (choice_of (length ring.weights.now) (part_at i)) },
     ghost olds: { (i : ℕ) → i < 256 → (slice_index_or groups i nothing).old ≡ weight_of (old_ones ring.rule.age ring.ages.now) (choice_of (length ring.weights.now) (part_at i)) },
 }
 
-// The choice whose tally is an entry.
+// The choice whose tally is entry `i` of the groups.
 fn part(i: usize) -> u32
     requires { i < 256 }
     ensures { result ≡ part_at i }
@@ -30,7 +33,7 @@ fn part(i: usize) -> u32
 }
 
 impl<'a> Tallies<'a> {
-    // Each entry is the tally of its choice, as one look over the pans tells it.
+    /// Makes the tallies of a ring: one look over its pans for each of the 256 entries.
     pub fn of(ring: Ring<'a>) -> Tallies<'a>
         ensures { result.ring ≡ ring.entry }
     {
@@ -40,12 +43,14 @@ impl<'a> Tallies<'a> {
         }
         Tallies {
             ring,
-            waiting: waiting(ring),
+            old_count: old_count(ring),
             groups,
         }
     }
 
-    // The tally of a choice: those of what it opens in each group, added up.
+    /// The tally of a choice: the sum of what it opens in each group.
+    ///
+    /// `choice` is below 2^24 and has pan 0 in the highest of the ring's bits.
     pub fn tally(&self, choice: u64) -> Tally
         requires { choice < 2 ^ 24 }
         ensures { Tallied self.now.ring.weights.now self.now.ring.ages.now self.now.ring.rule.age (choice_of (length self.now.ring.weights.now) choice) result }

@@ -1,11 +1,11 @@
--- Rows that are filled from the last two pans to the first: what one row more keeps and adds.
+-- The rows are filled from the last two pans to the first: what one row more keeps and adds.
 use Rattle.std.proofs.Common.{◌≡◌, ℕ, zero, suc, ◌+◌, ◌-◌, ◌*◌, ◌<◌, ◌≤◌, Bool, true, false, cond, ◌||◌, ltb, leb, ◌≢◌, ◌⊎◌, List, [], ◌∷◌, length, get_or, drop, sym, refl, ◌∙◌, length-drop, inl, inr, mul-le-mul_left, mul-one, mul-add, arith}
 use Rattle.std.proofs.lemmas.List.{drop_all, drop_more, get_or_past}
 use Rattle.std.proofs.lemmas.Bool.{cases_lt, and_parts, both_ways, leb-false}
-use Rattle.table.specs.Pans.{free_weight, free_at, free_before, none_due_empty, pairs_of}
+use Rattle.table.specs.Pans.{free_weight, free_at, free_before, none_old_empty, pairs_of}
 use Rattle.table.specs.Rows.{Least, Row, Rows, joined, row_at}
 use Rattle.table.proofs.Joining.{back_far, back_near, joined_nothing}
-use Rattle.table.proofs.Making.{least_due, least_barred, least_both, least_cap, least_heavy, least_nothing, least_never}
+use Rattle.table.proofs.Making.{least_old, least_barred, least_both, least_cap, least_heavy, least_nothing, least_never}
 
 free_drop_le : (old : ℕ) (j : ℕ) (ws as' : List ℕ) → free_weight old (drop j ws) (drop j as') ≤ free_weight old ws as'
 free_drop_le old zero ws as' = omega arith
@@ -21,14 +21,14 @@ cond_same : (b : Bool) (n : ℕ) → cond b n n ≡ n
 cond_same true n = refl
 cond_same false n = refl
 
-pub none_due_at :
-    (old : ℕ) (ws as' : List ℕ) (i : ℕ) → i < length ws → length as' ≡ length ws → none_due_empty old ws as' ≡ true →
+pub none_old_at :
+    (old : ℕ) (ws as' : List ℕ) (i : ℕ) → i < length ws → length as' ≡ length ws → none_old_empty old ws as' ≡ true →
     (ltb (get_or as' i 0) old || leb 1 (get_or ws i 0)) ≡ true
-none_due_at old [] as' i few paired h = absurd (omega arith)
-none_due_at old (w ∷ ws) [] i few paired h = absurd (omega arith)
-none_due_at old (w ∷ ws) (a ∷ as') zero few paired h = (and_parts (ltb a old || leb 1 w) (none_due_empty old ws as') h).0
-none_due_at old (w ∷ ws) (a ∷ as') (suc i) few paired h =
-    none_due_at old ws as' i (omega arith) (omega arith) (and_parts (ltb a old || leb 1 w) (none_due_empty old ws as') h).1
+none_old_at old [] as' i few paired h = absurd (omega arith)
+none_old_at old (w ∷ ws) [] i few paired h = absurd (omega arith)
+none_old_at old (w ∷ ws) (a ∷ as') zero few paired h = (and_parts (ltb a old || leb 1 w) (none_old_empty old ws as') h).0
+none_old_at old (w ∷ ws) (a ∷ as') (suc i) few paired h =
+    none_old_at old ws as' i (omega arith) (omega arith) (and_parts (ltb a old || leb 1 w) (none_old_empty old ws as') h).1
 
 module _ (old : ℕ) (ws as' : List ℕ) (i : ℕ) (paired : length as' ≡ length ws) where
   pub drop_weights : i < length ws → drop i ws ≡ get_or ws i 0 ∷ drop (i + 1) ws
@@ -61,20 +61,20 @@ module _ (old : ℕ) (ws as' : List ℕ) (i : ℕ) (paired : length as' ≡ leng
   pub before_le : free_before old ws as' i + free_at old ws as' i ≤ free_weight old ws as'
   before_le = omega (arith, free_next, free_drop_le old i ws as')
 
-  -- a pan may be opened or stay shut; or the rows leave it out, and what they hold is the same with it
+  -- a pan may be opened or stay shut; or it is old, empty or not there, and the row is the same with it
   pub data Kind : Type 0 where
     free : i < length ws → ltb (get_or as' i 0) old ≡ true → leb 1 (get_or ws i 0) ≡ true → free_at old ws as' i ≡ get_or ws i 0 → Kind
     idle : free_at old ws as' i ≡ 0 →
         ((x k : ℕ) → Least old (drop (i + 1) ws) (drop (i + 1) as') x k → Least old (drop i ws) (drop i as') x k) → Kind
 
-  pub kind : none_due_empty old ws as' ≡ true → Kind
-  kind ready = past_or (cases_lt i (length ws))
+  pub kind : none_old_empty old ws as' ≡ true → Kind
+  kind old_filled = past_or (cases_lt i (length ws))
     where
       here : i < length ws → (b c : Bool) → ltb (get_or as' i 0) old ≡ b → leb 1 (get_or ws i 0) ≡ c → Kind
       here few true true e f = free few e f (rw e refl)
       here few true false e f = idle (rw e (omega (arith, leb-false 1 (get_or ws i 0) f))) (λ x k l. rw (drop_weights few, drop_ages few) (least_barred e (λ g _. both_ways _ f g) l))
-      here few false true e f = idle (rw e refl) (λ x k l. rw (drop_weights few, drop_ages few) (least_due e f l))
-      here few false false e f = let h = rw (e, f) at (none_due_at old ws as' i few paired ready) in absurd (both_ways false refl h)
+      here few false true e f = idle (rw e refl) (λ x k l. rw (drop_weights few, drop_ages few) (least_old e f l))
+      here few false false e f = let h = rw (e, f) at (none_old_at old ws as' i few paired old_filled) in absurd (both_ways false refl h)
 
       past_or : (i < length ws) ⊎ (length ws ≤ i) → Kind
       past_or (inl few) = here few (ltb (get_or as' i 0) old) (leb 1 (get_or ws i 0)) refl refl
@@ -84,10 +84,10 @@ module _ (old : ℕ) (ws as' : List ℕ) (i : ℕ) (paired : length as' ≡ leng
 
   -- the row with one pan more in front
   pub row_next :
-      (from : ℕ) {most : ℕ} {f : ℕ → ℕ} → none_due_empty old ws as' ≡ true →
+      (from : ℕ) {most : ℕ} {f : ℕ → ℕ} → none_old_empty old ws as' ≡ true →
       Row old (drop (i + 1) ws) (drop (i + 1) as') (from - free_before old ws as' (i + 1)) most f →
       Row old (drop i ws) (drop i as') (from - free_before old ws as' i) most (joined f (free_at old ws as' i))
-  row_next from {most} {f} ready h = record { least = λ x low high. at x low high (kind ready) }
+  row_next from {most} {f} old_filled h = record { least = λ x low high. at x low high (kind old_filled) }
     where
       at : (x : ℕ) → from - free_before old ws as' i ≤ x → x ≤ most → Kind → Least old (drop i ws) (drop i as') x (joined f (free_at old ws as' i) x)
       at x low high (idle e goes) =
@@ -107,7 +107,7 @@ pub row_same :
     {old : ℕ} {ws as' : List ℕ} {from most : ℕ} {f g : ℕ → ℕ} → Row old ws as' from most f → ((x : ℕ) → from ≤ x → x ≤ most → g x ≡ f x) → Row old ws as' from most g
 row_same h same = record { least = λ x low high. rw (same x low high) (h.least x low high) }
 
--- the rows so far, and where weight 0 stands in the newest
+-- the rows so far; weight 0 of the newest stands at `at`
 pub record Filling (old : ℕ) (ws as' : List ℕ) (from most pad wide pair row before : ℕ) (bytes : List ℕ) : Type 0 where
   pub at : row ≡ pad + wide * (pairs_of (length ws) - pair)
   pub earlier : before ≡ free_before old ws as' (2 * pair)
@@ -144,14 +144,14 @@ filling_none old ws as' from most pad wide lies bytes paired less is none rest =
 
 -- a row more: the older ones stay
 pub filling_next :
-    {old : ℕ} {ws as' : List ℕ} {from most pad wide pair row before before' high : ℕ} {bytes bytes' : List ℕ} → length as' ≡ length ws → none_due_empty old ws as' ≡ true →
+    {old : ℕ} {ws as' : List ℕ} {from most pad wide pair row before before' high : ℕ} {bytes bytes' : List ℕ} → length as' ≡ length ws → none_old_empty old ws as' ≡ true →
     pair < pairs_of (length ws) → pad + most < wide → Filling old ws as' from most pad wide (pair + 1) row before bytes →
     before ≡ before' + (free_at old ws as' (2 * pair) + free_at old ws as' (2 * pair + 1)) → ((x : ℕ) → high ≤ x → x ≤ most → free_weight old ws as' < before' + x) →
     ((j : ℕ) → j < row + (wide - pad) → get_or bytes' j 0 ≡ get_or bytes j 0) → ((j : ℕ) → j < pad → get_or bytes' (row + (wide - pad) + j) 0 ≡ 255) →
     ((x : ℕ) → from - before' ≤ x → x < high →
     row_at bytes' (row + wide) x ≡ joined (joined (row_at bytes row) (free_at old ws as' (2 * pair + 1))) (free_at old ws as' (2 * pair)) x) →
     ((x : ℕ) → high ≤ x → x ≤ most → row_at bytes' (row + wide) x ≡ 255) → Filling old ws as' from most pad wide pair (row + wide) before' bytes'
-filling_next {old} {ws} {as'} {from} {most} {pad} {wide} {pair} {row} {before} {before'} {high} {bytes} {bytes'} paired ready few less h is past same blank made never =
+filling_next {old} {ws} {as'} {from} {most} {pad} {wide} {pair} {row} {before} {before'} {high} {bytes} {bytes'} paired old_filled few less h is past same blank made never =
     record { at = place; earlier = earlier; rows = record { row = λ i low high. at i high (cases_lt pair i) low; blank = λ i j low high short. front i j high short (cases_lt pair i) low } }
   where
     two : 2 * (pair + 1) ≡ 2 * pair + 1 + 1
@@ -178,7 +178,7 @@ filling_next {old} {ws} {as'} {from} {most} {pad} {wide} {pair} {row} {before} {
     joined' :
         Row old (drop (2 * pair) ws) (drop (2 * pair) as') (from - free_before old ws as' (2 * pair)) most
         (joined (joined (row_at bytes row) (free_at old ws as' (2 * pair + 1))) (free_at old ws as' (2 * pair)))
-    joined' = row_next old ws as' (2 * pair) paired from ready (row_next old ws as' (2 * pair + 1) paired from ready older)
+    joined' = row_next old ws as' (2 * pair) paired from old_filled (row_next old ws as' (2 * pair + 1) paired from old_filled older)
 
     newest : Row old (drop (2 * pair) ws) (drop (2 * pair) as') (from - free_before old ws as' (2 * pair)) most (row_at bytes' (row + wide))
     newest = record { least = λ x low top. either x low top (cases_lt x high) }
@@ -207,7 +207,7 @@ filling_next {old} {ws} {as'} {from} {most} {pad} {wide} {pair} {row} {before} {
         let f : wide * (pairs_of (length ws) - pair) + j ≡ row + (wide - pad) + j = omega (arith, h.at, more) in
         rw (e, f) (blank j short)
 
--- what the next two pans weigh is among what the free pans before weigh
+-- the next two pans are among the free pans before
 pub filling_before :
     {old : ℕ} {ws as' : List ℕ} {from most pad wide pair row before : ℕ} {bytes : List ℕ} → length as' ≡ length ws → 0 < pair →
     Filling old ws as' from most pad wide pair row before bytes → free_at old ws as' (2 * (pair - 1)) + free_at old ws as' (2 * (pair - 1) + 1) ≤ before
@@ -219,14 +219,14 @@ filling_before {old} {ws} {as'} {pair = pair} paired some h =
 -- the same step as the code takes it
 pub filling_more :
     {old : ℕ} {ws as' : List ℕ} {from most pad wide pair row before low high a b : ℕ} {bytes bytes' : List ℕ} → length as' ≡ length ws →
-    none_due_empty old ws as' ≡ true → 0 < pair → pair ≤ pairs_of (length ws) → pad + most < wide → Filling old ws as' from most pad wide pair row before bytes →
+    none_old_empty old ws as' ≡ true → 0 < pair → pair ≤ pairs_of (length ws) → pad + most < wide → Filling old ws as' from most pad wide pair row before bytes →
     a ≡ free_at old ws as' (2 * (pair - 1)) → b ≡ free_at old ws as' (2 * (pair - 1) + 1) → low ≤ from - (before - (a + b)) →
     ((x : ℕ) → high ≤ x → x ≤ most → free_weight old ws as' < before - (a + b) + x) →
     ((j : ℕ) → j < row + (wide - pad) → get_or bytes' j 0 ≡ get_or bytes j 0) → ((j : ℕ) → j < pad → get_or bytes' (row + (wide - pad) + j) 0 ≡ 255) →
     ((x : ℕ) → low ≤ x → x < high → row_at bytes' (row + wide) x ≡ joined (joined (row_at bytes row) b) a x) →
     ((x : ℕ) → high ≤ x → x ≤ most → row_at bytes' (row + wide) x ≡ 255) → Filling old ws as' from most pad wide (pair - 1) (row + wide) (before - (a + b)) bytes'
-filling_more {old} {ws} {as'} {from} {most} {pad} {wide} {pair} {row} {before} {low} {high} {a} {b} {bytes} {bytes'} paired ready some few less h first second start past same blank made never =
-    filling_next paired ready (omega arith) less here (omega (arith, first, second, filling_before paired some h)) past same blank
+filling_more {old} {ws} {as'} {from} {most} {pad} {wide} {pair} {row} {before} {low} {high} {a} {b} {bytes} {bytes'} paired old_filled some few less h first second start past same blank made never =
+    filling_next paired old_filled (omega arith) less here (omega (arith, first, second, filling_before paired some h)) past same blank
     (λ x enough below. rw (sym first, sym second) (made x (omega arith) below)) never
   where
     here : Filling old ws as' from most pad wide (pair - 1 + 1) row before bytes
@@ -252,7 +252,7 @@ filling_room {ws = ws} {wide = wide} {pair} h some few =
     let m : pairs_of (length ws) - pair + 1 ≤ pairs_of (length ws) = omega arith in
     omega (arith, mul-add wide (pairs_of (length ws) - pair) 1, mul-add wide (pairs_of (length ws)) 1, mul-one wide, mul-le-mul_left wide m, h.at)
 
--- where the row of the pans behind two stands
+-- where the row of the pans behind the next two stands
 pub row_below : (pad wide pairs pair row : ℕ) → pair < pairs → row ≡ pad + wide * (pairs - pair) → (pad + wide ≤ row) × (row - wide ≡ pad + wide * (pairs - (pair + 1)))
 row_below pad wide pairs pair row few is =
     let n : pairs - pair ≡ pairs - (pair + 1) + 1 = omega arith in

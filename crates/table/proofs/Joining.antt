@@ -1,4 +1,4 @@
--- What stands a pan's weight back in a row that has 255 in front, and rows joined with two pans in one pass.
+-- Looks back in a row behind a pad of 255, and a row joined with two pans in one pass.
 use Rattle.std.proofs.Common.{◌≡◌, ℕ, ◌+◌, ◌-◌, ◌<◌, ◌≤◌, min, ◌⊎◌, List, get_or, refl, inl, inr, arith}
 use Rattle.std.proofs.lemmas.Bool.{cases_lt, le-leb, lt-leb}
 use Rattle.table.specs.Pans.{pad_of, width_of}
@@ -15,11 +15,11 @@ back_far f w x h = rw (lt-leb w x h) refl
 pub back_near : (f : ℕ → ℕ) (w x : ℕ) → w ≤ x → back f w x ≡ f (x - w)
 back_near f w x h = rw (le-leb w x h) refl
 
--- a pan in which nothing lies free changes nothing
+-- a pan of weight 0 changes nothing
 pub joined_nothing : (f : ℕ → ℕ) (x : ℕ) → joined f 0 x ≡ min (f x) 255
 joined_nothing f x = let e : x - 0 ≡ x = omega arith in rw (back_near f 0 x (omega arith), e) (omega arith)
 
--- what is read a weight back, or from the front of the pad where that is too far
+-- a look back by a weight, or to the front of the pad where that is too far
 pub shifted :
     (bytes : List ℕ) (row pad w x : ℕ) → pad ≤ row → ((j : ℕ) → j < pad → get_or bytes (row - pad + j) 0 ≡ 255) → (pad < w → x < pad) →
     get_or bytes (row + x - min w pad) 0 ≡ back (row_at bytes row) w x
@@ -37,7 +37,7 @@ shifted bytes row pad w x low blank reach = at (cases_lt x w) (cases_lt pad w)
         let e : row + x - min w pad ≡ row + (x - w) = omega arith in
         rw (e, back_near (row_at bytes row) w x near) refl
 
--- two pans back is one pan back of what is one pan back
+-- a look back by two pans is one by the first and then by the second
 pub back_both : (f : ℕ → ℕ) (u v x : ℕ) → u ≤ x → back f (u + v) x ≡ back f v (x - u)
 back_both f u v x near = at (cases_lt x (u + v))
   where
@@ -47,7 +47,7 @@ back_both f u v x near = at (cases_lt x (u + v))
         let e : x - (u + v) ≡ x - u - v = omega arith in
         rw (back_near f (u + v) x more, back_near f v (x - u) (omega arith), e) refl
 
--- one pan back of a row with another pan
+-- a look back by one pan in the row with the other
 pub back_joined :
     (f : ℕ → ℕ) (u v x : ℕ) → min (back f u x) (min (back f (u + v) x + 1) 255) ≡ back (joined f v) u x
 back_joined f u v x = at (cases_lt x u)
@@ -56,7 +56,7 @@ back_joined f u v x = at (cases_lt x u)
     at (inl far) = rw (back_far f u x far, back_far f (u + v) x (omega arith), back_far (joined f v) u x far) refl
     at (inr h) = rw (back_near f u x h, back_both f u v x h, back_near (joined f v) u x h) refl
 
--- four places in one
+-- the least of the four bytes is the row joined with both pans
 pub four_joined :
     (f : ℕ → ℕ) (u v x : ℕ) →
     min (f x) (min (min (back f v x) (min (back f u x) (min (back f (u + v) x + 1) 255)) + 1) 255) ≡ joined (joined f v) u x

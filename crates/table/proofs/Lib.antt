@@ -3,6 +3,6 @@ mod Joining
 mod Making
 mod Surveying
 mod Filling
-mod Dues
+mod OldNumber
 mod Reading
 mod Bests

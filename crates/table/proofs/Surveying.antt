@@ -1,23 +1,23 @@
--- One look over the pans for the table, pan by pan: what is seen so far and what is left make up the whole.
+-- The survey of a ring pan by pan: what is seen so far, and what is left, make up the whole.
 use Rattle.std.proofs.Common.{◌≡◌, ℕ, zero, suc, ◌+◌, ◌-◌, ◌*◌, ◌≤◌, min, max, Bool, true, false, cond, ◌&&◌, ◌||◌, ltb, leb, List, [], ◌∷◌, length, get_or, arith}
 use mathlib.Core.Bool.{and_assoc}
 use Rattle.choices.specs.declared.rule.Rule.{Rule}
-use Rattle.table.specs.Pans.{due_weight, due_pans, free_weight, free_at, heaviest, none_due_empty, span_of}
+use Rattle.table.specs.Pans.{old_weight_of, old_count_of, free_weight, free_at, heaviest, none_old_empty, span_of}
 use Rattle.table.specs.Surveyed.{Surveyed}
 use Rattle.table.specs.declared.survey.Survey.{Survey}
 
--- the pans in ws' and as' are left
+-- the pans with the weights ws' and the ages as' are left
 pub record Surveying (old : ℕ) (ws as'' ws' as' : List ℕ) (s : Survey) : Type 0 where
   pub paired : length as' ≡ length ws'
   pub each : (i : ℕ) → get_or ws' i 0 ≤ 1000000
-  pub few : s.held + length ws' ≤ 24
-  pub light : s.due + s.free + 1000000 * length ws' ≤ 24000000
+  pub few : s.old_count + length ws' ≤ 24
+  pub light : s.old_weight + s.free + 1000000 * length ws' ≤ 24000000
   pub some : s.heaviest ≤ 1000000
-  pub due : s.due + due_weight old ws' as' ≡ due_weight old ws as''
-  pub held : s.held + due_pans old as' ≡ due_pans old as''
+  pub old_weight : s.old_weight + old_weight_of old ws' as' ≡ old_weight_of old ws as''
+  pub old_count : s.old_count + old_count_of old as' ≡ old_count_of old as''
   pub free : s.free + free_weight old ws' as' ≡ free_weight old ws as''
   pub heavy : max s.heaviest (heaviest old ws' as') ≡ heaviest old ws as''
-  pub ready : (s.ready && none_due_empty old ws' as') ≡ none_due_empty old ws as''
+  pub old_filled : (s.old_filled && none_old_empty old ws' as') ≡ none_old_empty old ws as''
 
 split : (b : Bool) (w : ℕ) → cond b 0 w + cond b w 0 ≡ w
 split true w = omega arith
@@ -31,22 +31,22 @@ one false = omega arith
 pub surveying_next :
     {old : ℕ} {ws as'' : List ℕ} {w a : ℕ} {ws₁ as₁ ws' as' : List ℕ} {s t : Survey} →
     Surveying old ws as'' ws₁ as₁ s → ws₁ ≡ w ∷ ws' → as₁ ≡ a ∷ as' →
-    t.due ≡ s.due + cond (ltb a old) 0 w → t.held ≡ s.held + cond (ltb a old) 0 1 →
+    t.old_weight ≡ s.old_weight + cond (ltb a old) 0 w → t.old_count ≡ s.old_count + cond (ltb a old) 0 1 →
     t.free ≡ s.free + cond (ltb a old) w 0 → t.heaviest ≡ max (cond (ltb a old) w 0) s.heaviest →
-    t.ready ≡ (s.ready && (ltb a old || leb 1 w)) →
+    t.old_filled ≡ (s.old_filled && (ltb a old || leb 1 w)) →
     Surveying old ws as'' ws' as' t
-surveying_next {old} {ws} {as''} {w} {a} {ws₁} {as₁} {ws'} {as'} {s} {t} h₁ e f due held free heavy ready =
+surveying_next {old} {ws} {as''} {w} {a} {ws₁} {as₁} {ws'} {as'} {s} {t} h₁ e f old_weight old_count free heavy old_filled =
     record {
       paired = omega (arith, h.paired);
       each = λ i. h.each (suc i);
       few = omega (arith, h.few, one (ltb a old));
       light = omega (arith, h.light, h.each 0, split (ltb a old) w);
       some = omega (arith, h.some, heavy, h.each 0, split (ltb a old) w);
-      due = omega (arith, h.due);
-      held = omega (arith, h.held);
+      old_weight = omega (arith, h.old_weight);
+      old_count = omega (arith, h.old_count);
       free = omega (arith, h.free);
       heavy = omega (arith, h.heavy, heavy);
-      ready = rw (ready, and_assoc) h.ready;
+      old_filled = rw (old_filled, and_assoc) h.old_filled;
     }
   where
     h : Surveying old ws as'' (w ∷ ws') (a ∷ as') s
@@ -63,6 +63,6 @@ heaviest_is old (w ∷ ws) [] i paired = absurd (omega arith)
 heaviest_is old (w ∷ ws) (a ∷ as') zero paired = omega arith
 heaviest_is old (w ∷ ws) (a ∷ as') (suc i) paired = omega (arith, heaviest_is old ws as' i (omega arith))
 
-pub span_is : (r : Rule) (ws as' : List ℕ) (s : Survey) → Surveyed r.age ws as' s → min (r.target + r.above - s.due) s.free ≡ span_of r ws as'
+pub span_is : (r : Rule) (ws as' : List ℕ) (s : Survey) → Surveyed r.age ws as' s → min (r.target + r.above - s.old_weight) s.free ≡ span_of r ws as'
 unfolding span_of
-span_is r ws as' s h = rw (h.due, h.free)
+span_is r ws as' s h = rw (h.old_weight, h.free)

@@ -1,29 +1,30 @@
--- What the pans of a ring are to its table. Assumes nothing: these are definitions.
---   due_weight       what the pans weigh that have waited so many bags, or more: they have to be opened
---   due_pans         how many they are
---   free_weight      what the other pans weigh
---   free_at          what a pan adds to that: nothing, if it has to be opened or is not there
---   free_before      what the free pans before a pan weigh
---   heaviest         what lies in the heaviest free pan
---   none_due_empty   no pan that has to be opened is empty
---   span_of          the most that the free pans of a bag may weigh: all of them, or what is left to the top of the window
---   pairs_of         the pans go into the table by twos; the last may be alone
---   width_of         whole blocks of 64 bytes that hold a byte for every weight up to a span
---   pad_of           the bytes in front of a row: as far as two pans can reach back, or a whole row, if that is less
---   row_bytes        the bytes of a row with those in front
+-- What the pans of a ring are to its table. A pan is old where it has waited `old` bags or more; all others are free.
+-- Assumes nothing: these are definitions.
+--   old_weight_of    what the old pans weigh
+--   old_count_of     how many they are
+--   free_weight      what the free pans weigh
+--   free_at          what pan i adds to that: 0 if it is old or not there
+--   free_before      what the free pans before pan i weigh
+--   heaviest         what the heaviest free pan weighs
+--   none_old_empty   no old pan is empty
+--   span_of          the most that the free pans of a bag may weigh: all of them, or what is left up to target + above
+--   pairs_of         how many pairs so many pans make; where their number is odd, the last pair has one pan
+--   width_of         the bytes of whole blocks of 64 that hold a byte for each weight from 0 to `most`
+--   pad_of           the bytes of 255 in front of a row: as far as two pans can reach back, or its width if that is less
+--   row_bytes        the bytes of a row with its pad
 --   table_bytes      the bytes of a table: a row for no pan at all and one for each two pans
---   most_bytes       the most that a table of so many pans takes under a rule
+--   most_bytes       the most that a table takes under a rule, of so many pans
 use Rattle.std.specs.Prelude.{ℕ, ◌+◌, ◌-◌, ◌*◌, ◌/◌, min, max, Bool, true, cond, ◌&&◌, ◌||◌, List, [], ◌∷◌, length, drop, nat_le, nat_lt, slice_index}
 use Rattle.choices.specs.declared.rule.Rule.{Rule}
 
-abbrev pub due_weight : ℕ → (weights ages : List ℕ) → ℕ
-due_weight old [] as' = 0
-due_weight old (w ∷ ws) [] = 0
-due_weight old (w ∷ ws) (a ∷ as') = cond (nat_lt a old) 0 w + due_weight old ws as'
+abbrev pub old_weight_of : ℕ → (weights ages : List ℕ) → ℕ
+old_weight_of old [] as' = 0
+old_weight_of old (w ∷ ws) [] = 0
+old_weight_of old (w ∷ ws) (a ∷ as') = cond (nat_lt a old) 0 w + old_weight_of old ws as'
 
-abbrev pub due_pans : ℕ → (ages : List ℕ) → ℕ
-due_pans old [] = 0
-due_pans old (a ∷ as') = cond (nat_lt a old) 0 1 + due_pans old as'
+abbrev pub old_count_of : ℕ → (ages : List ℕ) → ℕ
+old_count_of old [] = 0
+old_count_of old (a ∷ as') = cond (nat_lt a old) 0 1 + old_count_of old as'
 
 abbrev pub free_weight : ℕ → (weights ages : List ℕ) → ℕ
 free_weight old [] as' = 0
@@ -41,13 +42,13 @@ heaviest old [] as' = 0
 heaviest old (w ∷ ws) [] = 0
 heaviest old (w ∷ ws) (a ∷ as') = max (cond (nat_lt a old) w 0) (heaviest old ws as')
 
-abbrev pub none_due_empty : ℕ → (weights ages : List ℕ) → Bool
-none_due_empty old [] as' = true
-none_due_empty old (w ∷ ws) [] = true
-none_due_empty old (w ∷ ws) (a ∷ as') = (nat_lt a old || nat_le 1 w) && none_due_empty old ws as'
+abbrev pub none_old_empty : ℕ → (weights ages : List ℕ) → Bool
+none_old_empty old [] as' = true
+none_old_empty old (w ∷ ws) [] = true
+none_old_empty old (w ∷ ws) (a ∷ as') = (nat_lt a old || nat_le 1 w) && none_old_empty old ws as'
 
 unfoldable pub span_of : Rule → (weights ages : List ℕ) → ℕ
-span_of r ws as' = min (r.target + r.above - due_weight r.age ws as') (free_weight r.age ws as')
+span_of r ws as' = min (r.target + r.above - old_weight_of r.age ws as') (free_weight r.age ws as')
 
 abbrev pub pairs_of : ℕ → ℕ
 pairs_of pans = (pans + 1) / 2

@@ -1,24 +1,25 @@
 -- What the rows of a table hold. Assumes nothing: these are definitions.
---   row_at         what the row whose weight 0 stands at a place holds for a weight
---   back           what a row holds a pan's weight further to the front; 255 where no weight is
---   joined         the least of what it holds without a pan, and with it and one pan more
+--   row_at         byte x of the row whose weight 0 stands at byte `start`
+--   back           the row's value at x - weight, or 255 if x < weight
+--   joined         the row with one pan more: the least of what it holds at x, and one more than at x - weight
 --   first_opens    whether the first of two pans is opened for its weight: the rest then takes fewer pans
---   second_opens   whether the second one is, where it is known of the first
---   Makes          a choice of some pans that opens every pan that has to be opened and none that is empty, and weighs so
---                  much more than the pans that have to be opened
---   Least          the least number of pans, beside those that have to be opened, in such a choice; 255: there is none
---   Row            a row holds it for every weight that matters: from a lowest one up to the span
---   Rows           for each two pans from the first ones on, the row of the pans from there on; it lies behind the rows of fewer
---                  pans, and has so many bytes of 255 in front. What matters is what the free pans before can't make up for
---   Reaches        two pans that stand side by side reach back no further than the bytes in front, or no weight of a row does
---   First          of the choices that weigh so much, the one of the fewest pans that opens the first pan that differs
---   Read           that choice, by its number
---   Lightest       the first weight of a window for which a row holds a count within a limit, or that there is none
+--   second_opens   whether the second is, once it is known whether the first is
+--   Makes          cs opens every old pan and no empty one, and weighs x more than the old pans
+--   Least          k is the least number of pans besides the old ones in such a choice; 255: there is none
+--   Row            the row holds the least number for each weight from `from` to `most`
+--   Rows           for each i from `first` on, the row of the pans from 2 * i on stands in the bytes with its pad, behind
+--                  those of fewer pans. It is right from the least weight that with all free pans before reaches `from`
+--   Reaches        two pans side by side reach back no further than the pad, or the pad is as long as a row
+--   First          of the choices that weigh x more than the old pans, the one of the fewest pans that opens the first pan
+--                  that differs
+--   Read           that choice has this number
+--   LightestAt     x is the least weight from `from` to `most` at which a row holds a count of at most `limit`
+--   Lightest       that weight; None: there is none
 use Rattle.std.specs.Prelude.{◌≡◌, ℕ, ◌+◌, ◌-◌, ◌*◌, ◌<◌, ◌≤◌, min, Bool, true, false, cond, List, length, drop, Some, None, Option, nat_le, nat_lt, slice_index, slice_index_or}
 use Rattle.choices.specs.Choice.{Choice, weight_of, opened, none_empty, keeps_old}
 use Rattle.choices.specs.Numbered.{number_of}
 use Rattle.order.specs.Order.{first_more}
-use Rattle.table.specs.Pans.{due_weight, due_pans, free_at, free_before, pairs_of}
+use Rattle.table.specs.Pans.{old_weight_of, old_count_of, free_at, free_before, pairs_of}
 
 abbrev pub row_at : (bytes : List ℕ) (start : ℕ) → ℕ → ℕ
 row_at bytes start x = slice_index bytes (start + x)
@@ -29,7 +30,7 @@ back row w x = cond (nat_le w x) (row (x - w)) 255
 abbrev pub joined : (ℕ → ℕ) → (weight x : ℕ) → ℕ
 joined row w x = min (row x) (min (back row w x + 1) 255)
 
--- beside the row of both pans and of those behind, and that of those behind alone
+-- `whole` is the row of both pans and those behind, `behind` that of those behind alone
 abbrev pub first_opens : (whole behind : ℕ → ℕ) (first second x : ℕ) → Bool
 first_opens whole behind u v x = nat_lt (back (joined behind v) u x) (whole x)
 
@@ -39,12 +40,12 @@ second_opens o whole behind u v x = cond o (nat_lt (back behind (u + v) x) (back
 pub record Makes (old : ℕ) (ws as' : List ℕ) (x : ℕ) (cs : Choice) : Type 0 where
   pub whole : length cs ≡ length ws
   pub filled : none_empty ws cs ≡ true
-  pub waited : keeps_old old as' cs ≡ true
-  pub weighs : weight_of ws cs ≡ due_weight old ws as' + x
+  pub old_opened : keeps_old old as' cs ≡ true
+  pub weighs : weight_of ws cs ≡ old_weight_of old ws as' + x
 
 pub record Least (old : ℕ) (ws as' : List ℕ) (x k : ℕ) : Type 0 where
-  pub low : (cs : Choice) → Makes old ws as' x cs → due_pans old as' + k ≤ opened cs
-  pub some : k < 255 → (cs : Choice) × Makes old ws as' x cs × (opened cs ≡ due_pans old as' + k)
+  pub low : (cs : Choice) → Makes old ws as' x cs → old_count_of old as' + k ≤ opened cs
+  pub some : k < 255 → (cs : Choice) × Makes old ws as' x cs × (opened cs ≡ old_count_of old as' + k)
 
 pub record Row (old : ℕ) (ws as' : List ℕ) (from most : ℕ) (row : ℕ → ℕ) : Type 0 where
   pub least : (x : ℕ) → from ≤ x → x ≤ most → Least old ws as' x (row x)

@@ -1,4 +1,4 @@
-// The best bag of a ring, by its table.
+//! The best bag of a ring, found in its table.
 ghost use Rattle.std.specs.Prelude.{◌≡◌, ◌+◌, ◌*◌, ◌≤◌, ◌&&◌, true, length, nat_le};
 ghost use Rattle.choices.specs.Choice.{fits};
 ghost use Rattle.order.specs.Order.{Found};
@@ -6,7 +6,7 @@ ghost use Rattle.table.specs.Pans.{table_bytes};
 ghost use Rattle.table.specs.Surveyed.{Surveyed};
 
 use crate::look::survey;
-use crate::pans::{due_number, free_of};
+use crate::pans::{free_of, old_number};
 use crate::read::Table;
 use crate::rows::fill;
 use crate::shape::Shape;
@@ -14,8 +14,11 @@ use crate::survey::Survey;
 use choices::Ring;
 use order::Bag;
 
-// The best of all choices that fit the ring's rule, found in a lent room; or none, where no choice fits.
-// Where few pans may weigh just the target, that is tried first: it takes a fraction of the time of the rows.
+/// The best bag of a ring, or `None` where no choice of its pans fits its rule.
+///
+/// Row by row, for two pans more each, holds the least number of free pans that make each weight: Bellman's rows for subset
+/// sums (1957), with counts. `room` has at least the bytes that `room_for` says and may hold anything; its contents are
+/// unspecified afterwards.
 pub fn best(ring: Ring, room: &mut [u8]) -> Option<Bag>
     requires { table_bytes ring.rule ring.weights.now ring.ages.now ≤ length room.old }
     ensures { Found (fits ring.entry.rule ring.entry.weights.now ring.entry.ages.now) ring.entry.weights.now result }
@@ -24,6 +27,7 @@ pub fn best(ring: Ring, room: &mut [u8]) -> Option<Bag>
     if !seen.leaves_a_bag(ring.rule) {
         return None;
     }
+    // A bag of exactly the target by few pans takes a fraction of the time of the rows.
     if seen.few_may_do(ring.rule) {
         let easy = exact::best(ring, room);
         if easy.is_some() {
@@ -33,16 +37,16 @@ pub fn best(ring: Ring, room: &mut [u8]) -> Option<Bag>
     by_rows(ring, seen, room)
 }
 
-// All rows are filled, then the lightest weight of the window is looked for that few enough pans make, then its pans.
+// Fills all rows, finds the lightest weight in the window that few enough pans make, and reads off its pans.
 fn by_rows(ring: Ring, seen: Survey, room: &mut [u8]) -> Option<Bag>
     requires seen { Surveyed ring.rule.age ring.weights.now ring.ages.now seen }
-    requires leaves { (seen.ready && (nat_le seen.held ring.rule.pans && nat_le seen.due (ring.rule.target + ring.rule.above))) ≡ true }
+    requires leaves { (seen.old_filled && (nat_le seen.old_count ring.rule.pans && nat_le seen.old_weight (ring.rule.target + ring.rule.above))) ≡ true }
     requires room { table_bytes ring.rule ring.weights.now ring.ages.now ≤ length room.old }
     ensures { Found (fits ring.entry.rule ring.entry.weights.now ring.entry.ages.now) ring.entry.weights.now result }
 {
     let rule = ring.rule;
     let span = seen.span(rule);
-    let from = rule.target.saturating_sub(seen.due) as usize;
+    let from = rule.target.saturating_sub(seen.old_weight) as usize;
     let shape = Shape::of(span, seen.heaviest as usize);
     let free = free_of(ring);
     fill(ring, seen, &free, from, shape, room);
@@ -52,10 +56,10 @@ fn by_rows(ring: Ring, seen: Survey, room: &mut [u8]) -> Option<Bag>
         shape,
         bytes: room,
     };
-    let limit = (rule.pans - seen.held).min(254) as u8;
+    let limit = (rule.pans - seen.old_count).min(254) as u8;
     let x = table.lightest(from, limit)?;
     Some(Bag {
-        pans: table.read(&free, due_number(ring, seen.held), x),
-        weight: seen.due + x as u32,
+        pans: table.read(&free, old_number(ring, seen.old_count), x),
+        weight: seen.old_weight + x as u32,
     })
 }

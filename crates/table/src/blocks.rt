@@ -1,10 +1,11 @@
-// Rows are gone over in blocks, of which a processor takes a part at once.
+//! Rows are written in blocks of bytes, so that the processor can work on many bytes at once.
 ghost use Rattle.std.specs.Prelude.{◌≡◌, ℕ, ◌+◌, ◌-◌, ◌*◌, ◌<◌, ◌≤◌, min, length, slice_index};
 ghost use Rattle.table.specs.Rows.{joined, row_at};
 
+/// The bytes of a block.
 pub const BLOCK: usize = 64;
 
-// Four blocks in one: without two pans, with the second or the first and one pan more, or with both and two more, whichever is least.
+// The least of four counts, byte by byte: both pans shut; the second or the first opened, one more; both opened, two more.
 fn join(room: &[u8], shut: usize, second: usize, first: usize, both: usize) -> [u8; BLOCK]
     requires near { (shut + 64 ≤ length room.now) × (second + 64 ≤ length room.now) }
     requires far { (first + 64 ≤ length room.now) × (both + 64 ≤ length room.now) }
@@ -18,7 +19,7 @@ fn join(room: &[u8], shut: usize, second: usize, first: usize, both: usize) -> [
     made
 }
 
-// Writes a block at a place; nothing before it changes.
+// Writes a block from byte `at` on; nothing before it changes.
 fn put(room: &mut [u8], at: usize, block: [u8; BLOCK])
     requires { at + 64 ≤ length room.old }
     ensures same { (j : ℕ) → j < at → slice_index room.new j ≡ slice_index room.old j }
@@ -29,7 +30,7 @@ fn put(room: &mut [u8], at: usize, block: [u8; BLOCK])
     }
 }
 
-// The block at a place.
+/// The block from byte `at` on. `room` reaches to its end.
 pub fn get(room: &[u8], at: usize) -> [u8; BLOCK]
     requires { at + 64 ≤ length room.now }
     ensures { (x : ℕ) → x < 64 → slice_index result x ≡ slice_index room.now (at + x) }
@@ -41,8 +42,9 @@ pub fn get(room: &[u8], at: usize) -> [u8; BLOCK]
     block
 }
 
-// Writes a block of 255 so many times, where no weight is or none can be made. The block is handed in, since a loop that writes what is
-// known to be 255 everywhere is compiled to a call, which takes longer than the few blocks do.
+/// Writes `blocks` blocks of 255 from byte `from` on: no choice weighs so much. Nothing before them changes.
+///
+/// `never` is such a block. It is handed in, since a loop that writes a known byte is compiled to a call, which is slower.
 pub fn blank(room: &mut [u8], never: [u8; BLOCK], from: usize, blocks: usize)
     requires never { (x : ℕ) → x < 64 → slice_index never x ≡ 255 }
     requires room { from + 64 * blocks ≤ length room.old }
@@ -54,7 +56,10 @@ pub fn blank(room: &mut [u8], never: [u8; BLOCK], from: usize, blocks: usize)
     }
 }
 
-// A block, from a weight on, of the row with two pans more, made from a row with so many bytes of 255 in front.
+/// Writes the block for the weights from `from` on of the row with two pans more; nothing before it changes.
+///
+/// Weight 0 stands at byte `row` in the row without the two pans, behind `pad` bytes of 255, and at byte `next` in the new
+/// row. The two pans weigh `first` and `second`, at most 1,000,000 each.
 pub fn add_block(
     room: &mut [u8],
     row: usize,

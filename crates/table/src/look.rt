@@ -1,4 +1,4 @@
-// One look over a ring's pans for its table.
+//! One look over a ring's pans, and the room that its table takes.
 ghost use Rattle.table.specs.Pans.{most_bytes, table_bytes};
 ghost use Rattle.table.specs.Surveyed.{Surveyed};
 ghost use Rattle.std.specs.Prelude.{◌≡◌, ◌≤◌, length};
@@ -8,18 +8,19 @@ use crate::shape::{Shape, width_of};
 use crate::survey::Survey;
 use choices::Ring;
 
-// By index: a zip of weights and ages ends in two ways, and such a loop takes no four pans at once.
+/// What the old and the free pans of a ring add up to.
 pub fn survey(ring: Ring) -> Survey
     ensures { Surveyed ring.entry.rule.age ring.entry.weights.now ring.entry.ages.now result }
 {
     let mut seen = Survey::NOTHING;
+    // By index: the loop over a zip has two ends, and is not compiled to work on four pans at once.
     for pan in 0..ring.weights.len() {
         seen = seen.with(ring.weights[pan], ring.ages[pan] < ring.rule.age);
     }
     seen
 }
 
-// The bytes that a ring's table takes.
+/// The bytes of room that `best` needs for this ring.
 pub fn room_for(ring: Ring) -> usize
     ensures { result ≡ table_bytes ring.entry.rule ring.entry.weights.now ring.entry.ages.now }
 {
@@ -28,8 +29,9 @@ pub fn room_for(ring: Ring) -> usize
     shape.wide() * (pairs(ring) + 1)
 }
 
-// No table takes more bytes under such a rule, of so many pans: with it a lent room that is long enough is known without a look
-// over the pans.
+/// The most bytes of room that `best` needs for any ring with this rule and as many pans.
+///
+/// It lets a caller size the room without scanning the pans.
 pub fn most_room_for(ring: Ring) -> usize
     ensures is { result ≡ most_bytes ring.entry.rule (length ring.entry.weights.now) }
     ensures enough { table_bytes ring.entry.rule ring.entry.weights.now ring.entry.ages.now ≤ result }

@@ -1,23 +1,23 @@
-// A ring's table in a lent room, and the bag read off it: its weight, and the pans from the first on.
+//! A ring's table in a lent room, and how a bag is read off it: first its weight, then its pans from pan 0 on.
 ghost use Rattle.std.specs.Prelude.{◌≡◌, ℕ, ◌+◌, ◌-◌, ◌*◌, ◌^◌, ◌<◌, ◌≤◌, true, cond, length, slice_index};
 ghost use Rattle.choices.specs.Choice.{bit};
 ghost use Rattle.choices.specs.Numbered.{number_of};
-ghost use Rattle.exact.specs.Pans.{due_of};
-ghost use Rattle.table.specs.Pans.{free_at, none_due_empty, pairs_of};
+ghost use Rattle.exact.specs.Pans.{only_old};
+ghost use Rattle.table.specs.Pans.{free_at, none_old_empty, pairs_of};
 ghost use Rattle.table.specs.Rows.{Lightest, Reaches, Read, Rows, first_opens, row_at, second_opens};
 
 use crate::pans::pairs;
 use crate::shape::Shape;
 use choices::Ring;
 
-// What a pan takes of a weight.
+// What a pan takes of the weight that is left.
 fn taken(opened: bool, weight: usize) -> usize
     ensures { result ≡ cond opened weight 0 }
 {
     if opened { weight } else { 0 }
 }
 
-// A pan's part of the number that is answered.
+// The bit of an opened pan in the number of a choice.
 fn mark(opened: bool, pan: usize) -> u32
     requires { pan < 32 }
     ensures { result ≡ bit opened * 2 ^ pan }
@@ -25,27 +25,31 @@ fn mark(opened: bool, pan: usize) -> u32
     u32::from(opened) << pan
 }
 
-// The rows of a ring in which no pan that has to be opened is empty: one for no pan at all, and one for each two pans.
+/// The rows of a ring in a lent room: one for no pan at all, and one for each two pans. No old pan of the ring is empty.
 #[derive(Clone, Copy)]
 pub struct Table<'a, 'b> {
+    /// The ring.
     pub ring: Ring<'a>,
+    /// The most that the free pans of a bag may weigh.
     pub span: usize,
+    /// How each row lies in the room.
     pub shape: Shape,
+    /// The rows.
     pub bytes: &'b [u8],
-    ghost ready: { none_due_empty ring.rule.age ring.weights.now ring.ages.now ≡ true },
+    ghost old_filled: { none_old_empty ring.rule.age ring.weights.now ring.ages.now ≡ true },
     ghost whole: { span < 64 * shape.blocks },
     ghost enough: { (shape.pad + 64 * shape.blocks) * (pairs_of (length ring.weights.now) + 1) ≤ length bytes.now },
 }
 
 impl Table<'_, '_> {
-    // Where weight 0 stands in the row of all pans.
+    // The byte of weight 0 in the row of all pans.
     fn top(self) -> usize
         ensures { result ≡ self.entry.shape.pad + (self.entry.shape.pad + 64 * self.entry.shape.blocks) * pairs_of (length self.entry.ring.weights.now) }
     {
         self.shape.pad + self.shape.wide() * pairs(self.ring)
     }
 
-    // The first weight of the window that few enough pans make.
+    /// The least weight, from `from` on, that at most `limit` free pans make; `None`: none up to the span.
     pub fn lightest(self, from: usize, limit: u8) -> Option<usize>
         ensures { Lightest self.entry.bytes.now (self.entry.shape.pad + (self.entry.shape.pad + 64 * self.entry.shape.blocks) * pairs_of (length self.entry.ring.weights.now)) from self.entry.span limit result }
     {
@@ -53,8 +57,8 @@ impl Table<'_, '_> {
         (from..self.span + 1).find(|x| self.bytes[top + *x] <= limit)
     }
 
-    // Which of two pans are opened for what they weigh, beside the row of those behind them: each where the rest then takes fewer.
-    // All that may be looked up is, before it is known which of it counts, so that no test has to be foretold.
+    // Which of two free pans are opened for the weight `left`: each where the pans behind then make the rest with fewer.
+    // Reads all four bytes first, so the processor has no branch to mispredict.
     fn opens(self, row: usize, left: usize, first: usize, second: usize) -> (bool, bool)
         requires row { self.shape.pad + (self.shape.pad + 64 * self.shape.blocks) ≤ row }
         requires left { row + left < length self.bytes.now }
@@ -76,10 +80,13 @@ impl Table<'_, '_> {
         (opens, also)
     }
 
-    // The pans of the choice that makes a weight, as the number that is answered: those that have to be opened, and what is read.
-    pub fn read(self, free: &[u32; 24], due: u32, weight: usize) -> u32
+    /// The choice of the fewest free pans that weigh `weight` together, with the old pans: bit `i` is pan `i`.
+    ///
+    /// Of choices of as many pans it is the one that opens the first pan that differs. `free` is what `free_of` answers, and
+    /// `old_number` the choice of just the old pans. The rows hold a count for `weight`, which is within the span.
+    pub fn read(self, free: &[u32; 24], old_number: u32, weight: usize) -> u32
         requires free { (i : ℕ) → i < 24 → slice_index free.now i ≡ free_at self.ring.rule.age self.ring.weights.now self.ring.ages.now i }
-        requires due { due ≡ number_of (due_of self.ring.rule.age self.ring.ages.now) }
+        requires old_number { old_number ≡ number_of (only_old self.ring.rule.age self.ring.ages.now) }
         requires rows { Rows self.ring.rule.age self.ring.weights.now self.ring.ages.now weight (64 * self.shape.blocks - 1) self.shape.pad (self.shape.pad + 64 * self.shape.blocks) 0 self.bytes.now }
         requires reach { Reaches self.ring.rule.age self.ring.weights.now self.ring.ages.now self.shape.pad (64 * self.shape.blocks) }
         requires within { weight ≤ self.span }
@@ -88,7 +95,7 @@ impl Table<'_, '_> {
     {
         let mut row = self.top();
         let mut left = weight;
-        let mut pans = due;
+        let mut pans = old_number;
         for pair in 0..pairs(self.ring) {
             let pan = 2 * pair;
             let first = free[pan] as usize;

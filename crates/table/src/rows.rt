@@ -1,6 +1,6 @@
-// The rows of the table: for each weight the least number of free pans that weigh so much.
+//! The rows of the table: for each weight the least number of free pans that weigh exactly so much.
 ghost use Rattle.std.specs.Prelude.{◌≡◌, ℕ, ◌+◌, ◌-◌, ◌*◌, ◌<◌, ◌≤◌, true, ◌≢◌, length, slice_index};
-ghost use Rattle.table.specs.Pans.{free_at, none_due_empty, pairs_of};
+ghost use Rattle.table.specs.Pans.{free_at, none_old_empty, pairs_of};
 ghost use Rattle.table.specs.Rows.{Reaches, Rows, joined, row_at};
 ghost use Rattle.table.specs.Surveyed.{Surveyed};
 
@@ -10,7 +10,7 @@ use crate::shape::Shape;
 use crate::survey::Survey;
 use choices::Ring;
 
-// The row of no pan at all: weight 0 takes no pan, and nothing else can be made.
+// Writes the row of no pan: weight 0 takes no pan, and no other weight can be made.
 fn start_row(row: &mut [u8], pad: usize)
     requires { pad < length row.old }
     ensures none { slice_index row.new pad ≡ 0 }
@@ -20,8 +20,8 @@ fn start_row(row: &mut [u8], pad: usize)
     row[pad] = 0;
 }
 
-// The row with two pans more, behind the row without them: made from one block on, and from another one on 255, since all its
-// pans together weigh less.
+// Writes the row with two pans more behind the row without them, and joins the blocks from `low` up to `high`. From `high`
+// on the row is 255, since all its pans together weigh less.
 fn add_pair(
     room: &mut [u8],
     never: [u8; BLOCK],
@@ -52,11 +52,14 @@ fn add_pair(
     blank(room, never, next + BLOCK * high, shape.blocks - high);
 }
 
-// Every row, from that of no pan to that of all pans, for the weights that matter: what the pans before can't make up for.
+/// Fills all rows of a ring, from that of no pan to that of all pans, two pans more each, the last pans first.
+///
+/// Each row is right from the least weight on that, with all free pans before, still reaches `from`. `seen` is the survey of
+/// the ring, in which no old pan is empty; `free` is what `free_of` answers; `room` is long enough for rows of this shape.
 pub fn fill(ring: Ring, seen: Survey, free: &[u32; 24], from: usize, shape: Shape, room: &mut [u8])
     requires free { (i : ℕ) → i < 24 → slice_index free.now i ≡ free_at ring.rule.age ring.weights.now ring.ages.now i }
     requires seen { Surveyed ring.rule.age ring.weights.now ring.ages.now seen }
-    requires ready { none_due_empty ring.rule.age ring.weights.now ring.ages.now ≡ true }
+    requires old_filled { none_old_empty ring.rule.age ring.weights.now ring.ages.now ≡ true }
     requires reach { Reaches ring.rule.age ring.weights.now ring.ages.now shape.pad (64 * shape.blocks) }
     requires enough { (shape.pad + 64 * shape.blocks) * (pairs_of (length ring.weights.now) + 1) ≤ length room.old }
     ensures { Rows ring.entry.rule.age ring.entry.weights.now ring.entry.ages.now from (64 * shape.blocks - 1) shape.pad (shape.pad + 64 * shape.blocks) 0 room.new }

@@ -1,13 +1,17 @@
-// How a row lies in the room of a table.
+//! How a row lies in the room of a table.
 ghost use Rattle.std.specs.Prelude.{◌≡◌, ◌+◌, ◌*◌, ◌/◌, ◌≤◌};
 ghost use Rattle.table.specs.Pans.{pad_of, row_bytes, width_of};
 
 use crate::blocks::BLOCK;
 
-// In front so many bytes of 255, where no weight is, then its blocks.
+/// How a row lies in the room: a pad of bytes of 255, then whole blocks with a byte for each weight from 0 on.
+///
+/// With the pad, a look back by what two pans weigh needs no test whether the weight is below 0.
 #[derive(Clone, Copy)]
 pub struct Shape {
+    /// The bytes of the pad, whole blocks too.
     pub pad: usize,
+    /// The blocks of 64 bytes behind the pad.
     pub blocks: usize,
     ghost whole: { pad ≡ 64 * (pad / 64) },
     ghost long: { 64 ≤ pad },
@@ -16,7 +20,7 @@ pub struct Shape {
     ghost small: { blocks ≤ 800000 },
 }
 
-// Whole blocks that hold a byte for every weight up to a span.
+/// The bytes of whole blocks that hold a byte for each weight from 0 to `span`, at most a ring's target + above.
 pub fn width_of(span: usize) -> usize
     requires { span ≤ 50000000 }
     ensures { result ≡ width_of span }
@@ -25,8 +29,11 @@ pub fn width_of(span: usize) -> usize
 }
 
 impl Shape {
-    // For weights up to a span, where no pan weighs more than the heaviest: two pans reach no further back than twice that,
-    // and none further than a whole row.
+    /// The shape of rows for weights from 0 to `span`, of free pans that weigh at most `heaviest`.
+    ///
+    /// `span` is at most a ring's target + above, and `heaviest` at most 1,000,000.
+    ///
+    /// The pad is as long as two pans can reach back, or as the blocks of a row if these are fewer.
     pub fn of(span: usize, heaviest: usize) -> Shape
         requires { (span ≤ 50000000) × (heaviest ≤ 1000000) }
         ensures pad { result.pad ≡ pad_of span heaviest }
@@ -38,7 +45,7 @@ impl Shape {
         }
     }
 
-    // The bytes of a row with those in front.
+    /// The bytes of a row with its pad.
     pub fn wide(self) -> usize
         ensures { result ≡ self.pad + 64 * self.blocks }
     {

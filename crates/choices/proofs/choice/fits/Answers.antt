@@ -9,4 +9,4 @@ pub returns : goal.returns
 returns c =
     let ring = c.args.ring in
     let n = length ring.weights.now in
-    c.fits.ensures ∙ rw c.waiting.ensures (fits_is ring.rule ring.weights.now ring.ages.now (choice_of n c.args.choice) _ (length_choice_of n c.args.choice) ring.ordered.paired c.look.ensures)
+    c.fits.ensures ∙ rw c.old_count.ensures (fits_is ring.rule ring.weights.now ring.ages.now (choice_of n c.args.choice) _ (length_choice_of n c.args.choice) ring.ordered.paired c.look.ensures)

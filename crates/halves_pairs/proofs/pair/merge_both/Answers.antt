@@ -9,8 +9,8 @@ loop-j-init c = (merging_none _ _ _ _ c.args.first.fewer, merging_none _ _ _ _ c
 
 pub loop-j-preserved : goal.loop-j-preserved
 loop-j-preserved c = (
-  merging_turn _ _ _ _ _ _ _ c.loop-j.invariant.0 c.loop-j-test.true (omega arith) c.requires.front_sorted.rises _ _ c.max.ensures c.above-keeps.ensures,
-  merging_turn _ _ _ _ _ _ _ c.loop-j.invariant.1 c.if-q-gt0.true (omega arith) c.requires.back_sorted.rises _ _ c.max-in-loop-j.ensures c.above-holds.ensures,
+  merging_turn _ _ _ _ _ _ _ c.loop-j.invariant.0 c.loop-j-test.true (omega arith) c.requires.front_sorted.rises _ _ c.max.ensures c.above-front_keeps.ensures,
+  merging_turn _ _ _ _ _ _ _ c.loop-j.invariant.1 c.if-q-gt0.true (omega arith) c.requires.back_sorted.rises _ _ c.max-in-loop-j.ensures c.above-back_keeps.ensures,
 )
 
 pub merge-requires : goal.merge-requires

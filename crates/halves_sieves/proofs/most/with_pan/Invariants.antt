@@ -1,4 +1,4 @@
--- What is worked out, from the most pans down.
+-- The entries that are done, from the most pans down.
 use Rattle.halves_sieves.proofs.Weighing.{Worked}
 use Rattle.halves_sieves.proofs.most.with_pan.Given as goal
 

@@ -1,4 +1,4 @@
--- What the pans that are taken in weigh at most, with those before.
+-- The entries are right for the pans taken in so far.
 use Rattle.std.specs.Slice.Iter.{iter_rest}
 use Rattle.std.specs.Iterator.Adapters.{rev_source}
 use Rattle.halves_sieves.proofs.Weighing.{Weighing}

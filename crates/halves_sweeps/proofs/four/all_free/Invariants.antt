@@ -1,4 +1,4 @@
--- What is left for certain to those that are looked at.
+-- How many steps each of the sweeps so far can take at least.
 use Rattle.std.proofs.Common.{ℕ, ◌+◌, ◌<◌, ◌≤◌, get_or}
 use Rattle.halves_sweeps.specs.declared.lane.Lane.{Lane}
 use Rattle.halves_sweeps.proofs.four.all_free.Given as goal

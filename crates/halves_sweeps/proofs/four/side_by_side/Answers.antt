@@ -1,4 +1,4 @@
--- What is left of the proof that the four run as far as none ends.
+-- What is left of the proof that the four go on until one of them is at its end.
 use Rattle.std.proofs.Common.{◌+◌}
 use Rattle.halves_sweeps.proofs.Striding.{strides_more}
 use Rattle.halves_sweeps.proofs.four.side_by_side.Goals as goal

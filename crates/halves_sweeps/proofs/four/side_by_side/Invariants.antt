@@ -1,4 +1,4 @@
--- How far the four have come, and that the steps to be taken are free.
+-- How far the four have come, and that each can take so many steps more.
 use Rattle.std.proofs.Common.{ℕ, ◌+◌, ◌≤◌, length}
 use Rattle.std.specs.List.{All}
 use Rattle.halves_sweeps.specs.Lane.{Strides}

@@ -1,4 +1,4 @@
--- How far the four have come, and in a turn those that took their step.
+-- How far the four have come, and within a turn those that have taken their step.
 use Rattle.halves_sweeps.specs.Lane.{Strides}
 use Rattle.halves_sweeps.proofs.Striding.{Turning}
 use Rattle.halves_sweeps.proofs.four.stride.Given as goal

@@ -1,4 +1,4 @@
--- What is left of the proof that no weight is passed over wrongly.
+-- What is left of the proof that no sum within the limit is missed.
 use Rattle.std.proofs.Common.{◌≡◌, ◌+◌, ◌*◌, ◌/◌, ◌%◌, ◌^◌, ◌<◌, arith}
 use Rattle.halves_sweeps.proofs.Sweeping.{passed_more}
 use Rattle.halves_sweeps.proofs.tops.least.Goals as goal

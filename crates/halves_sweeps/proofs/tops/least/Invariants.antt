@@ -1,4 +1,4 @@
--- What is passed over opens too many pans.
+-- The sums below the weight that is tried open too many pans.
 use Rattle.halves_sweeps.proofs.Sweeping.{Passed}
 use Rattle.halves_sweeps.proofs.tops.least.Given as goal
 

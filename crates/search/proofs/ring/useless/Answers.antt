@@ -48,4 +48,4 @@ pub returns-else-whole-rule : goal.returns-else-whole-rule
 returns-else-whole-rule c e =
     let ring = c.args.tallies.now.ring in
     let h = rw (last (length ring.weights.now) c.args.head c.args.free ring.ordered.few c.requires.1) at c.tally-whole.ensures in
-    shut _ _ _ c.args.head _ _ c.requires.0 c.requires.1 ring.ordered.paired (omega (arith, h.olds, c.args.tallies.now.waits, ltb-true _ _ e))
+    shut _ _ _ c.args.head _ _ c.requires.0 c.requires.1 ring.ordered.paired (omega (arith, h.olds, c.args.tallies.now.old_counted, ltb-true _ _ e))

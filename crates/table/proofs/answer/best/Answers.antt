@@ -7,4 +7,4 @@ pub returns-then-not-leaves_a_bag : goal.returns-then-not-leaves_a_bag
 returns-then-not-leaves_a_bag c =
     let h = c.survey-seen.ensures in
     none_left c.args.ring.rule c.args.ring.weights.now c.args.ring.ages.now c.args.ring.ordered.paired
-    (rw (h.ready, h.held, h.due) at (sym c.leaves_a_bag.ensures ∙ c.if-not-leaves_a_bag.true))
+    (rw (h.old_filled, h.old_count, h.old_weight) at (sym c.leaves_a_bag.ensures ∙ c.if-not-leaves_a_bag.true))

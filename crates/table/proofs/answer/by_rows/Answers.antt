@@ -14,9 +14,9 @@ fill-requires-clause-enough c =
 pub invariant_of-table : goal.invariant_of-table
 invariant_of-table c =
     let h = c.requires.seen in
-    let p = and_parts c.args.seen.ready _ c.requires.leaves in
+    let p = and_parts c.args.seen.old_filled _ c.requires.leaves in
     record {
-      ready = sym h.ready ∙ p.0;
+      old_filled = sym h.old_filled ∙ p.0;
       whole = omega (arith, c.of-shape.ensures.blocks);
       enough = omega (arith, rows_fit c.args.ring.rule h c.span-span.ensures c.of-shape.ensures.pad c.of-shape.ensures.blocks c.requires.room);
     }
@@ -39,4 +39,4 @@ returns c =
     let t =
     window h c.requires.leaves r.ordered.paired r.ordered.few c.span-span.ensures (omega (arith, c.of-shape.ensures.blocks)) c.fill.ensures
     c.saturating_sub-from.ensures c.min-limit.ensures in
-    rw h.due (best_found t c.in_ok-x.ensures c.read.ensures)
+    rw h.old_weight (best_found t c.in_ok-x.ensures c.read.ensures)

@@ -1,4 +1,4 @@
--- What is left of the proof of the look over the pans.
+-- What is left of the proof of the survey.
 use Rattle.std.proofs.Common.{arith}
 use Rattle.std.proofs.lemmas.List.{drop_more}
 use Rattle.table.proofs.Surveying.{surveying_next}
@@ -8,4 +8,4 @@ pub loop-pan-preserved : goal.loop-pan-preserved
 loop-pan-preserved c =
     let e = c.with-seen.ensures in
     surveying_next c.loop-pan.invariant (drop_more c.args.ring.weights.now c.loop-pan.pan 0 c.loop-pan-test.true)
-    (drop_more c.args.ring.ages.now c.loop-pan.pan 0 (omega (arith, c.args.ring.ordered.paired, c.loop-pan-test.true))) e.due e.held e.free e.heavy e.ready
+    (drop_more c.args.ring.ages.now c.loop-pan.pan 0 (omega (arith, c.args.ring.ordered.paired, c.loop-pan-test.true))) e.old_weight e.old_count e.free e.heavy e.old_filled

@@ -1,4 +1,4 @@
--- What the look over the pans keeps from turn to turn.
+-- What the loop over the pans keeps: the survey of the pans so far.
 use Rattle.std.proofs.Common.{drop}
 use Rattle.table.proofs.Surveying.{Surveying}
 use Rattle.table.proofs.look.survey.Given as goal

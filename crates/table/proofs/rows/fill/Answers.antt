@@ -43,7 +43,7 @@ loop-pair-preserved c =
     let h = c.add_pair.ensures in
     let few = rw c.pairs-pair.ensures at c.loop-pair.auto.pair in
     let inside : c.wide-wide.result - c.args.shape.pad ≡ 64 * c.args.shape.blocks = omega (arith, c.wide-wide.ensures) in
-    filling_more c.args.ring.ordered.paired c.requires.ready c.loop-pair-test.true few (omega (arith, c.wide-wide.ensures, c.args.shape.some))
+    filling_more c.args.ring.ordered.paired c.requires.old_filled c.loop-pair-test.true few (omega (arith, c.wide-wide.ensures, c.args.shape.some))
     c.loop-pair.invariant (c.requires.free _ (omega (arith, few, c.args.ring.ordered.few, c.loop-pair-test.true))) (c.requires.free _ (omega (arith, few, c.args.ring.ordered.few, c.loop-pair-test.true))) (omega (arith, c.saturating_sub-low.ensures))
     (λ x high low. omega (arith, c.min-high.ensures, filling_free c.loop-pair.invariant, c.requires.seen.free))
     (λ j less. h.same j (omega (arith, c.wide-wide.ensures))) (λ j less. rw inside (h.blank j less)) (λ x low below. rw c.wide-wide.ensures (h.made x low below)) (λ x high low. rw c.wide-wide.ensures (h.never x high (omega arith)))

@@ -13,4 +13,4 @@ pub returns : goal.returns
 returns c =
     let ring = c.args.self.now.ring in
     let n = length ring.weights.now in
-    c.fits.ensures ∙ rw c.args.self.now.waits (fits_is ring.rule ring.weights.now ring.ages.now (choice_of n c.args.k) _ (length_choice_of n c.args.k) ring.ordered.paired c.tally.ensures)
+    c.fits.ensures ∙ rw c.args.self.now.old_counted (fits_is ring.rule ring.weights.now ring.ages.now (choice_of n c.args.k) _ (length_choice_of n c.args.k) ring.ordered.paired c.tally.ensures)

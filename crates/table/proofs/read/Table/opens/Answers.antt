@@ -5,16 +5,16 @@ use Rattle.table.specs.Rows.{back, joined, row_at}
 use Rattle.table.proofs.Joining.{shifted, back_joined}
 use Rattle.table.proofs.read.Table.opens.Goals as goal
 
--- beside the row of the pans behind, which stands a whole row before; no two pans reach further back than its pad, or no weight does
+-- the row of the pans behind stands one row before; two pans reach back no further than its pad, or it is as long as a row
 module _
     (bytes : List ℕ) (row whole pad left : ℕ) {wide : ℕ} (is : wide ≡ whole) (low : pad + whole ≤ row)
     (blank : (j : ℕ) → j < pad → get_or bytes (row - whole - pad + j) 0 ≡ 255)
   where
-    -- what stands a weight back
+    -- the byte a weight back
     place : (w : ℕ) {far : ℕ} → far ≡ min w pad → (pad < w → left < pad) → get_or bytes (row - wide + left - far) 0 ≡ back (row_at bytes (row - whole)) w left
     place w short reach = rw (is, short) (shifted bytes (row - whole) pad w left (omega (arith, low)) blank reach)
 
-    -- what the rest takes with the first pan
+    -- how many pans the rest takes with the first pan
     with_first :
         (u v : ℕ) {one both alone more with : ℕ} → one ≡ min u pad → both ≡ min (u + v) pad → (pad < u + v → left < pad) →
         alone ≡ get_or bytes (row - wide + left - one) 0 → alone ≤ 255 → more ≡ get_or bytes (row - wide + left - both) 0 →

@@ -2,7 +2,7 @@
 use Rattle.std.proofs.Common.{length, ◌∙◌, arith}
 use Rattle.std.proofs.lemmas.Nat.{one_shl}
 use Rattle.choices.proofs.Tallies.{all_opened}
-use Rattle.choices.proofs.tally.waiting.Goals as goal
+use Rattle.choices.proofs.tally.old_count.Goals as goal
 
 pub returns : goal.returns
 returns c =
