@@ -2,5 +2,8 @@
 mod Looking
 pub mod Blocks
 pub mod Choices
+pub mod Counted
+pub mod Made
+pub mod Marked
 pub mod Numbers
 pub mod Tallies
