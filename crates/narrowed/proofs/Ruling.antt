@@ -1,0 +1,46 @@
+-- Other rules for a ring: what a looser one allows, and what it finds.
+use Rattle.std.proofs.Common.{◌≡◌, ℕ, ◌≤◌, true, false, ltb, List, [], ◌∷◌, Some, None, sym, refl, ◌∙◌, arith}
+use Rattle.std.proofs.lemmas.Bool.{and_parts, and_from, both_ways, ltb-true, lt-ltb}
+use Rattle.std.proofs.lemmas.Bool.Decides.{nat_tests}
+use Rattle.choices.specs.Choice.{Choice, weight_of, keeps_old, fits}
+use Rattle.choices.proofs.Choices.{fitting, fits_from}
+use Rattle.order.proofs.Orders.{better_is, ranked}
+use Rattle.order.proofs.Over.{none_of_more}
+use Rattle.narrowed.specs.Laws.{LooserFinds, LooserStillFits, NoneStays}
+
+-- by a higher age no more pans have to be opened
+pub keeps_old_later : (old age : ℕ) (as' : List ℕ) (cs : Choice) → old ≤ age → keeps_old old as' cs ≡ true → keeps_old age as' cs ≡ true
+keeps_old_later old age [] cs l h = refl
+keeps_old_later old age (a ∷ as') [] l h = refl
+keeps_old_later old age (a ∷ as') (true ∷ cs) l h = keeps_old_later old age as' cs l h
+keeps_old_later old age (a ∷ as') (false ∷ cs) l h =
+    let p = and_parts (ltb a old) (keeps_old old as' cs) h in
+    and_from _ _ (lt-ltb a age (omega (arith, ltb-true a old p.0))) (keeps_old_later old age as' cs l p.1)
+
+pub looser_still_fits : LooserStillFits
+looser_still_fits r q ws as' cs l h =
+    let f = fitting r ws as' cs h in
+    fits_from q ws as' cs
+    (record {
+      whole = f.whole;
+      enough = omega (arith, f.enough, l.lighter);
+      within = omega (arith, f.within, l.heavier);
+      few = omega (arith, f.few, l.more);
+      filled = f.filled;
+      waited = keeps_old_later r.age q.age as' cs l.older f.waited;
+    })
+
+pub none_stays : NoneStays
+none_stays r q ws as' l = none_of_more (fits q ws as') (fits r ws as') (λ cs. looser_still_fits r q ws as' cs l)
+
+-- what is not better is no heavier
+pub unbeaten_light : (ws : List ℕ) (cs ds : Choice) → ranked ws cs ds ≡ false → weight_of ws ds ≤ weight_of ws cs
+unbeaten_light ws cs ds h = grind (arith, nat_tests)
+
+pub looser_finds : LooserFinds
+looser_finds r q ws as' b None l f none = absurd (both_ways (fits q ws as' f.choice) (none f.choice) (looser_still_fits r q ws as' f.choice l f.best.allowed))
+looser_finds r q ws as' b (Some d) l f g =
+    let a = looser_still_fits r q ws as' f.choice l f.best.allowed in
+    let long = (fitting q ws as' f.choice a).whole ∙ sym (fitting q ws as' g.choice g.best.allowed).whole in
+    let light = unbeaten_light ws f.choice g.choice (sym (better_is ws f.choice g.choice long) ∙ g.best.unbeaten f.choice a) in
+    (d, refl, omega (arith, f.weighs, g.weighs, light))
