@@ -7,12 +7,12 @@
 --   LooserStillFits     what fits a rule fits a looser one
 --   LooserFinds         where a rule has a bag a looser one has one that is no heavier
 --   NoneStays           where a looser rule has none, neither has the stricter
-use Rattle.std.specs.Prelude.{◌≡◌, ℕ, ◌≤◌, true, ◌&&◌, List, length, Option, Some}
+use Rattle.std.specs.Prelude.{◌≡◌, ℕ, ◌≤◌, true, List, length, Option, Some}
 use Rattle.choices.specs.Choice.{Choice, emptied, fits, weight_of}
 use Rattle.choices.specs.declared.rule.Rule.{Rule}
 use Rattle.order.specs.Order.{Found, NoneOf}
 use Rattle.order.specs.declared.bag.Bag.{Bag}
-use Rattle.narrowed.specs.Narrow.{Looser, apart, by_marks, fits_narrowed, fits_without, made_old, old_marks, opens_all}
+use Rattle.narrowed.specs.Narrow.{Looser, apart, by_marks, fits_narrowed, fits_opening, fits_without, made_old, old_marks}
 
 abbrev pub EmptiedStayShut : Type 0
 EmptiedStayShut = (r : Rule) (ws as' : List ℕ) (ts cs : Choice) → fits r (emptied ws ts) as' cs ≡ fits_without r ws as' ts cs
@@ -20,12 +20,12 @@ EmptiedStayShut = (r : Rule) (ws as' : List ℕ) (ts cs : Choice) → fits r (em
 abbrev pub OldStayOpen : Type 0
 OldStayOpen =
     (r : Rule) (ws as' : List ℕ) (ts cs : Choice) → length as' ≡ length ws → length ts ≡ length ws →
-    fits r ws (made_old r.age as' ts) cs ≡ (fits r ws as' cs && opens_all ts cs)
+    fits r ws (made_old r.age as' ts) cs ≡ fits_opening r ws as' ts cs
 
 abbrev pub MarksStandForAges : Type 0
 MarksStandForAges =
     (r : Rule) (ws as' : List ℕ) (us cs : Choice) → length as' ≡ length ws → length us ≡ length ws →
-    fits (by_marks r) ws (old_marks r.age as' us) cs ≡ (fits r ws as' cs && opens_all us cs)
+    fits (by_marks r) ws (old_marks r.age as' us) cs ≡ fits_opening r ws as' us cs
 
 abbrev pub NarrowedFits : Type 0
 NarrowedFits =

@@ -2,6 +2,7 @@
 --   apart          no pan is opened by both choices
 --   opens_all      every pan of the first choice is opened by the second
 --   fits_without   fits, and opens none of these pans
+--   fits_opening   fits, and opens all of these pans
 --   fits_narrowed  fits, opens none of the first pans, and opens all of the others
 --   made_old       the ages, with that of each of these pans made the rule's
 --   old_marks      for each pan 1 if it is old or one of these pans, else 0
@@ -23,6 +24,9 @@ opens_all (t ∷ ts) (c ∷ cs) = (not t || c) && opens_all ts cs
 
 abbrev pub fits_without : Rule → (weights ages : List ℕ) → Choice → Choice → Bool
 fits_without r ws as' ts cs = fits r ws as' cs && apart ts cs
+
+abbrev pub fits_opening : Rule → (weights ages : List ℕ) → Choice → Choice → Bool
+fits_opening r ws as' us cs = fits r ws as' cs && opens_all us cs
 
 abbrev pub fits_narrowed : Rule → (weights ages : List ℕ) → Choice → Choice → Choice → Bool
 fits_narrowed r ws as' ts us cs = fits_without r ws as' ts cs && opens_all us cs

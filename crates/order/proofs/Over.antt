@@ -1,9 +1,11 @@
 -- The way over from what one search found to what another looks for.
-use Rattle.std.proofs.Common.{◌≡◌, ℕ, Bool, true, List, Some, None, sym, ◌∙◌, ⊎_elim}
+use Rattle.std.proofs.Common.{◌≡◌, ℕ, Bool, true, List, Some, None, sym, ◌∙◌, ap₂, ⊎_elim}
 use Rattle.std.proofs.lemmas.Bool.{both_ways, cases_Bool}
 use Rattle.choices.specs.Choice.{Choice, weight_of}
+use Rattle.choices.specs.Numbered.{choice_from}
+use Rattle.choices.proofs.Numbers.{choice_from_number}
 use Rattle.order.specs.Order.{better, BestOf, NoneOf}
-use Rattle.order.specs.Laws.{SameChoices, FoundCarriesOver, BestOfMore, NoneOfMore}
+use Rattle.order.specs.Laws.{SameChoices, FoundCarriesOver, BestOfMore, NoneOfMore, FoundOfMore}
 
 -- the order looks at no more of the weights than what the two choices weigh
 pub better_same : (ws ws' : List ℕ) (cs ds : Choice) → weight_of ws cs ≡ weight_of ws' cs → weight_of ws ds ≡ weight_of ws' ds → better ws cs ds ≡ better ws' cs ds
@@ -33,3 +35,8 @@ best_of_more may less ws cs wider b a = record { allowed = a; unbeaten = λ ds d
 
 pub none_of_more : NoneOfMore
 none_of_more may less wider h cs = ⊎_elim (λ e. absurd (both_ways (may cs) (h cs) (wider cs e))) (λ e. e) (cases_Bool (less cs))
+
+pub found_of_more : FoundOfMore
+found_of_more may less ws n b wider long f a =
+    let same : choice_from n b.pans ≡ f.choice = ap₂ choice_from (sym (long f.choice f.best.allowed)) f.number ∙ choice_from_number f.choice in
+    record { choice = f.choice; best = best_of_more may less ws f.choice wider f.best (rw same at a); number = f.number; weighs = f.weighs }

@@ -6,8 +6,10 @@
 --   FoundCarriesOver what a search finds is found wherever the same choices are allowed and weigh the same
 --   BestOfMore       the best of all that a wider test allows is the best by a narrower one that allows it too
 --   NoneOfMore       where the wider test allows nothing, neither does the narrower one
-use Rattle.std.specs.Prelude.{◌≡◌, ℕ, Bool, true, false, ◌⊎◌, List, length, Option}
+--   FoundOfMore      the bag found by a wider test is what a narrower one finds, if that allows the choice of its number
+use Rattle.std.specs.Prelude.{◌≡◌, ℕ, Bool, true, false, ◌⊎◌, List, length, Some, Option}
 use Rattle.choices.specs.Choice.{Choice, weight_of}
+use Rattle.choices.specs.Numbered.{choice_from}
 use Rattle.order.specs.Order.{better, BestOf, NoneOf, Found}
 use Rattle.order.specs.declared.bag.Bag.{Bag}
 
@@ -43,3 +45,9 @@ BestOfMore =
 abbrev pub NoneOfMore : Type 0
 NoneOfMore =
     (may less : Choice → Bool) → ((ds : Choice) → less ds ≡ true → may ds ≡ true) → NoneOf may → NoneOf less
+
+abbrev pub FoundOfMore : Type 0
+FoundOfMore =
+    (may less : Choice → Bool) (ws : List ℕ) (n : ℕ) (b : Bag) →
+    ((ds : Choice) → less ds ≡ true → may ds ≡ true) → ((ds : Choice) → may ds ≡ true → length ds ≡ n) →
+    Found may ws (Some b) → less (choice_from n b.pans) ≡ true → Found less ws (Some b)
