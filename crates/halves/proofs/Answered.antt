@@ -51,8 +51,8 @@ module _ (r : Rule) (ws as' : List ℕ) (few : length ws ≤ 24) (paired : lengt
   pub first_none : FirstSum s from None → FirstFrom r ws as' asked None
   first_none f cs e = ⊎_elim (λ l. l) (λ l. let a = allowed_from cs e l in absurd (omega (arith, a.1, next_of None f cs a.0))) (cases_lt (place 0 ws cs) asked)
 
-  pub first_some : (x : ℕ) (b : Bag) → FirstSum s from (Some x) → Says ws x b → FirstFitting r ws as' asked (record { place = x; bag = b })
-  first_some x b f says =
+  pub first_some : (x : ℕ) (b : Bag) (low : x < 2 ^ 61) → FirstSum s from (Some x) → Says ws x b → FirstFitting r ws as' asked (record { place = x; bag = b; low = low })
+  first_some x b low f says =
       let n : First s.bounds.limit ws (ways r.age ws as') from s.bounds.to x = next_of (Some x) f in
       let whole = whole_allowed n.choice n.allowed.ways in
       let say = says n.choice whole n.at in

@@ -1,4 +1,5 @@
 // A bag with its place in the order of choices.
+ghost use Rattle.std.specs.Prelude.{◌^◌, ◌<◌};
 
 use order::Bag;
 
@@ -11,4 +12,5 @@ pub struct Placed {
     pub place: u64,
     /// The bag itself.
     pub bag: Bag,
+    ghost low: { place < 2 ^ 61 },
 }

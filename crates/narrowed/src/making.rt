@@ -50,10 +50,8 @@ pub fn narrow(ring: Ring, taken: u32, forced: u32) -> Narrowed
     let marks = array::from_fn(|pan| mark(ring, forced, pan));
     Narrowed {
         rule: Rule {
-            target: ring.rule.target,
-            above: ring.rule.above,
-            pans: ring.rule.pans,
             age: 1,
+            ..ring.rule
         },
         weights,
         marks,

@@ -37,6 +37,7 @@ impl Narrowed {
     /// open no pan that was taken away, and every pan that was forced open; where it has none, there is none.
     pub fn ring<'a>(&'a self) -> Ring<'a>
         ensures rule { result.rule ≡ self.now.rule }
+        ensures pans { length result.weights.now ≡ self.now.pans }
         ensures weights { result.weights.now ≡ take self.now.pans self.now.weights }
         ensures marks { result.ages.now ≡ take self.now.pans self.now.marks }
         ensures answers { AnswersFor self.now result.rule result.weights.now result.ages.now }

@@ -29,7 +29,7 @@ pub returns : goal.returns
 returns c =
     let ring = c.args.self.ring in
     ∥∥₁_elim c.args.self.filled (first_fitting_prop ring.rule ring.weights.now ring.ages.now c.args.from _)
-    (λ f. first_some ring.rule ring.weights.now ring.ages.now ring.few ring.paired ring.light c.args.self.halves f c.args.from _ (search rules) _ _ c.in_ok-place.ensures c.bag_in.ensures)
+    (λ f. first_some ring.rule ring.weights.now ring.ages.now ring.few ring.paired ring.light c.args.self.halves f c.args.from _ (search rules) _ _ _ c.in_ok-place.ensures c.bag_in.ensures)
 
 pub returns-in_err-place : goal.returns-in_err-place
 returns-in_err-place c =
