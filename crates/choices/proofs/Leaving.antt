@@ -1,22 +1,18 @@
 -- What a bag leaves: nothing is lost, no pan is too old, and the pans are in order; and what a looser rule allows.
-use Rattle.std.proofs.Common.{◌≡◌, ℕ, zero, suc, ◌+◌, ◌≤◌, Bool, true, false, ltb, List, [], ◌∷◌, length, get_or, sym, refl, ap, ◌∙◌, arith}
+use Rattle.std.proofs.Common.{◌≡◌, ℕ, zero, suc, ◌+◌, ◌≤◌, true, false, ltb, List, [], ◌∷◌, length, get_or, sym, refl, ◌∙◌, arith}
 use Rattle.std.proofs.lemmas.Bool.{and_parts, and_from, ltb-true, lt-ltb}
-use Rattle.choices.specs.Choice.{Choice, weight_of, keeps_old, marked, emptied, aged}
+use Rattle.choices.specs.Choice.{Choice, weight_of, keeps_old, emptied, aged}
 use Rattle.choices.specs.Stand.{Stand, InOrder, by_rule, Allowed, left_by, total, Young, Looser}
 use Rattle.choices.specs.declared.limits.TheConstants.{LIMIT}
 use Rattle.choices.specs.declared.rule.Rule.{Rule}
 use Rattle.choices.proofs.Choices.{fitting, fits_from}
+use Rattle.choices.proofs.Marked.{length_marked}
 
 pub nothing_lost : (ws : List ℕ) (cs : Choice) → weight_of ws cs + total (emptied ws cs) ≡ total ws
 nothing_lost [] cs = refl
 nothing_lost (w ∷ ws) [] = omega arith
 nothing_lost (w ∷ ws) (true ∷ cs) = omega (arith, nothing_lost ws cs)
 nothing_lost (w ∷ ws) (false ∷ cs) = omega (arith, nothing_lost ws cs)
-
-pub length_marked : (f : Bool → ℕ → ℕ) (xs : List ℕ) (cs : Choice) → length (marked f xs cs) ≡ length xs
-length_marked f [] cs = refl
-length_marked f (x ∷ xs) [] = refl
-length_marked f (x ∷ xs) (c ∷ cs) = ap suc (length_marked f xs cs)
 
 -- after a bag no age is above the rule's, whatever it was before
 pub aged_young : (old : ℕ) (as' : List ℕ) (cs : Choice) → length cs ≡ length as' → keeps_old old as' cs ≡ true → Young old (aged as' cs)
@@ -50,13 +46,13 @@ left_in_order {s = s} {cs} small o a =
     }
 
 -- a higher age asks for no more pans
-waits_on : (old age : ℕ) (as' : List ℕ) (cs : Choice) → old ≤ age → keeps_old old as' cs ≡ true → keeps_old age as' cs ≡ true
-waits_on old age [] cs l h = refl
-waits_on old age (a ∷ as') [] l h = refl
-waits_on old age (a ∷ as') (true ∷ cs) l h = waits_on old age as' cs l h
-waits_on old age (a ∷ as') (false ∷ cs) l h =
+keeps_old_later : (old age : ℕ) (as' : List ℕ) (cs : Choice) → old ≤ age → keeps_old old as' cs ≡ true → keeps_old age as' cs ≡ true
+keeps_old_later old age [] cs l h = refl
+keeps_old_later old age (a ∷ as') [] l h = refl
+keeps_old_later old age (a ∷ as') (true ∷ cs) l h = keeps_old_later old age as' cs l h
+keeps_old_later old age (a ∷ as') (false ∷ cs) l h =
     let p = and_parts (ltb a old) (keeps_old old as' cs) h in
-    and_from _ _ (lt-ltb a age (omega (arith, ltb-true a old p.0))) (waits_on old age as' cs l p.1)
+    and_from _ _ (lt-ltb a age (omega (arith, ltb-true a old p.0))) (keeps_old_later old age as' cs l p.1)
 
 -- what fits a rule fits every looser one
 pub looser_fits : {r q : Rule} (s : Stand) (cs : Choice) → Looser r q → by_rule r s cs ≡ true → by_rule q s cs ≡ true
@@ -65,9 +61,9 @@ looser_fits {r} {q} s cs l h =
     fits_from q s.weights s.ages cs
     (record {
       whole = f.whole;
-      enough = omega (arith, f.enough, l.target);
-      within = omega (arith, f.within, l.target, l.above);
-      few = omega (arith, f.few, l.pans);
+      enough = omega (arith, f.enough, l.lighter);
+      within = omega (arith, f.within, l.heavier);
+      few = omega (arith, f.few, l.more);
       filled = f.filled;
-      old_opened = waits_on r.age q.age s.ages cs l.age f.old_opened;
+      old_opened = keeps_old_later r.age q.age s.ages cs l.older f.old_opened;
     })

@@ -3,5 +3,8 @@ mod Looking
 pub mod Blocks
 pub mod Leaving
 pub mod Choices
+pub mod Counted
+pub mod Made
+pub mod Marked
 pub mod Numbers
 pub mod Tallies

@@ -10,7 +10,8 @@
 --   left_by      the stand that a choice leaves: opened pans are empty and of age 0, all others a bag older
 --   total        what lies in the pans together
 --   Young        no pan has waited for more bags than so many
---   Looser       a rule that asks for no less: the same target, as much above, as many pans and as high an age, or more
+--   Looser       a rule (the second) whose bags may weigh, open and wait for all that the other's may: more above, more pans, a
+--                higher age, or a lower target
 use Rattle.std.specs.Prelude.{◌≡◌, ℕ, ◌+◌, ◌≤◌, Bool, true, List, [], ◌∷◌, length, slice_index}
 use Rattle.choices.specs.Choice.{Choice, weight_of, none_empty, keeps_old, fits, emptied, aged}
 use Rattle.choices.specs.declared.rule.Rule.{Rule}
@@ -61,7 +62,7 @@ abbrev pub Young : ℕ → List ℕ → Type 0
 Young age as' = (i : ℕ) → slice_index as' i ≤ age
 
 pub record Looser (r q : Rule) : Type 0 where
-  pub target : q.target ≡ r.target
-  pub above : r.above ≤ q.above
-  pub pans : r.pans ≤ q.pans
-  pub age : r.age ≤ q.age
+  pub lighter : q.target ≤ r.target
+  pub heavier : r.target + r.above ≤ q.target + q.above
+  pub more : r.pans ≤ q.pans
+  pub older : r.age ≤ q.age

@@ -1,48 +1,88 @@
--- What the search by ways answers is what the rule asks for.
-use Rattle.std.proofs.Common.{◌≡◌, ℕ, ◌+◌, ◌*◌, ◌^◌, ◌<◌, ◌≤◌, true, false, List, length, sym, ap, ◌∙◌, ⊎_elim, arith}
-use Rattle.std.proofs.lemmas.Bool.{and_parts, and_from, cases_Bool, le-ltb}
+-- What a ring's halves answer is what its rule asks for.
+use Rattle.std.proofs.Common.{◌≡◌, ℕ, ◌+◌, ◌*◌, ◌^◌, ◌<◌, ◌≤◌, max, true, List, length, get_or, None, Some, Option, sym, ap₂, ◌∙◌, ⊎_elim, arith}
+use Rattle.std.proofs.Props.{props}
+use Rattle.std.proofs.lemmas.Bool.{and_parts, and_from, cases_Bool, cases_lt, le-ltb}
 use Rattle.choices.specs.Choice.{Choice, none_empty, keeps_old, fits}
+use Rattle.choices.specs.Numbered.{choice_from}
 use Rattle.choices.specs.declared.rule.Rule.{Rule}
 use Rattle.choices.proofs.Choices.{fitting, fits_from}
+use Rattle.choices.proofs.Counted.{length_choice_from}
+use Rattle.choices.proofs.Numbers.{choice_from_number}
 use Rattle.halves_places.specs.Place.{by_ways, place}
-use Rattle.order.specs.Order.{BestBag}
+use Rattle.order.specs.Order.{BestBag, NoneOf}
 use Rattle.order.specs.declared.bag.Bag.{Bag}
-use Rattle.halves.specs.Next.{Allowed, First}
+use Rattle.halves.specs.Asked.{FilledFor, FirstFitting, FirstFrom, FirstSum}
+use Rattle.halves.specs.Next.{Allowed, First, Next}
+use Rattle.halves.specs.declared.filled.Halves.{Halves}
+use Rattle.halves.specs.declared.placed.Placed.{Placed}
 use Rattle.halves_places.specs.Ring.{ways, Says}
-use Rattle.halves_places.specs.declared.way.Way.{Way}
 use Rattle.halves_places.proofs.Places.{length_by_ways, better_place, place_says}
 use Rattle.halves_places.proofs.Rings.{by_ring, length_ways}
+use Rattle.halves.proofs.Asking.{next_is}
 
--- what fits the rule is what the ways allow, from the target's place on and below the bound
-module _ (r : Rule) (ws as' : List ℕ) (few : length ws ≤ 24) (paired : length as' ≡ length ws) (limit from to : ℕ) (vs : List Way) (by-limit : limit ≡ r.pans) (by-from : from ≡ r.target * 2 ^ 29) (by-to : to ≡ (r.target + r.above + 1) * 2 ^ 29) (by-ways-is : vs ≡ ways r.age ws as') where
-  allowed_from : (cs : Choice) → fits r ws as' cs ≡ true → Allowed limit ws vs from cs × (place 0 ws cs < to)
-  allowed_from cs h =
-      let f = fitting r ws as' cs h in
-      let s = place_says ws cs few f.whole in
-      (record { ways = rw by-ways-is (by_ring r.age ws as' cs paired f.whole ∙ and_from _ _ f.filled f.old_opened); few = omega (arith, f.few); enough = omega (arith, s.0, f.enough) }, omega (arith, s.0, f.within))
+-- what is told from a place on has one proof at most, so it may be told of halves of which is only known that they are filled
+pub first_fitting_prop : (r : Rule) (ws as' : List ℕ) (from : ℕ) (p : Placed) → IsProp (FirstFitting r ws as' from p)
+first_fitting_prop r ws as' from p = hlevel props
 
-  whole_allowed : (cs : Choice) → by_ways vs cs ≡ true → length cs ≡ length ws
-  whole_allowed cs a = length_by_ways vs cs a ∙ ap length by-ways-is ∙ length_ways r.age ws as' paired
+pub none_from_prop : (r : Rule) (ws as' : List ℕ) (from : ℕ) → IsProp (FirstFrom r ws as' from None)
+none_from_prop r ws as' from = hlevel props
 
-  fits_allowed : (cs : Choice) → Allowed limit ws vs from cs → place 0 ws cs < to → fits r ws as' cs ≡ true
+-- the halves of a ring, asked from a place on; what fits the rule weighs the target or more, so they are asked from there
+module _ (r : Rule) (ws as' : List ℕ) (few : length ws ≤ 24) (paired : length as' ≡ length ws) (light : (i : ℕ) → get_or ws i 0 ≤ 1000000) (s : Halves) (h : FilledFor r ws as' s) (asked from : ℕ) (by-from : from ≡ max asked (r.target * 2 ^ 29)) where
+  allowed_from : (cs : Choice) → fits r ws as' cs ≡ true → asked ≤ place 0 ws cs → Allowed s.bounds.limit ws (ways r.age ws as') from cs × (place 0 ws cs < s.bounds.to)
+  allowed_from cs e l =
+      let f = fitting r ws as' cs e in
+      let p = place_says ws cs few f.whole in
+      (record { ways = by_ring r.age ws as' cs paired f.whole ∙ and_from _ _ f.filled f.old_opened; few = omega (arith, f.few, h.limit); enough = omega (arith, p.0, f.enough) }, omega (arith, p.0, f.within, h.to))
+
+  whole_allowed : (cs : Choice) → by_ways (ways r.age ws as') cs ≡ true → length cs ≡ length ws
+  whole_allowed cs a = length_by_ways (ways r.age ws as') cs a ∙ length_ways r.age ws as' paired
+
+  fits_allowed : (cs : Choice) → Allowed s.bounds.limit ws (ways r.age ws as') from cs → place 0 ws cs < s.bounds.to → fits r ws as' cs ≡ true
   fits_allowed cs a l =
       let e = whole_allowed cs a.ways in
-      let k = and_parts (none_empty ws cs) (keeps_old r.age as' cs) (sym (by_ring r.age ws as' cs paired e) ∙ rw by-ways-is at a.ways) in
-      let s = place_says ws cs few e in
-      fits_from r ws as' cs (record { whole = e; enough = omega (arith, s.0, a.enough); within = omega (arith, s.0); few = omega (arith, a.few); filled = k.0; old_opened = k.1 })
+      let k = and_parts (none_empty ws cs) (keeps_old r.age as' cs) (sym (by_ring r.age ws as' cs paired e) ∙ a.ways) in
+      let p = place_says ws cs few e in
+      fits_from r ws as' cs (record { whole = e; enough = omega (arith, p.0, a.enough); within = omega (arith, p.0, h.to); few = omega (arith, a.few, h.limit); filled = k.0; old_opened = k.1 })
 
-  pub found_none : ((cs : Choice) → Allowed limit ws vs from cs → to ≤ place 0 ws cs) → (cs : Choice) → fits r ws as' cs ≡ false
-  found_none h cs = ⊎_elim (λ e. let a = allowed_from cs e in absurd (omega (arith, a.1, h cs a.0))) (λ e. e) (cases_Bool (fits r ws as' cs))
+  next_of : (o : Option ℕ) → FirstSum s from o → Next s.bounds.limit ws (ways r.age ws as') from s.bounds.to o
+  next_of o f = next_is ws (ways r.age ws as') s few (length_ways r.age ws as' paired) light h.filled from f.0 o (omega (arith, h.least)) f.1 f.2
 
-  pub found_first : (x : ℕ) (b : Bag) → First limit ws vs from to x → Says ws x b → BestBag (fits r ws as') ws b
-  found_first x b h says =
-      let whole = whole_allowed h.choice h.allowed.ways in
+  pub first_none : FirstSum s from None → FirstFrom r ws as' asked None
+  first_none f cs e = ⊎_elim (λ l. l) (λ l. let a = allowed_from cs e l in absurd (omega (arith, a.1, next_of None f cs a.0))) (cases_lt (place 0 ws cs) asked)
+
+  pub first_some : (x : ℕ) (b : Bag) (low : x < 2 ^ 61) → FirstSum s from (Some x) → Says ws x b → FirstFitting r ws as' asked (record { place = x; bag = b; low = low })
+  first_some x b low f says =
+      let n : First s.bounds.limit ws (ways r.age ws as') from s.bounds.to x = next_of (Some x) f in
+      let whole = whole_allowed n.choice n.allowed.ways in
+      let say = says n.choice whole n.at in
+      let same : choice_from (length ws) b.pans ≡ n.choice = ap₂ choice_from (sym whole) say.0 ∙ choice_from_number n.choice in
       record {
-        choice = h.choice;
-        best = record {
-          allowed = fits_allowed h.choice h.allowed (omega (arith, h.at, h.below));
-          unbeaten = λ ds f. better_place ws ds h.choice few (fitting r ws as' ds f).whole whole ∙ le-ltb _ _ (omega (arith, h.at, h.least ds (allowed_from ds f).0));
-        };
-        number = (says h.choice whole h.at).0;
-        weighs = (says h.choice whole h.at).1;
+        allowed = rw same (fits_allowed n.choice n.allowed (omega (arith, n.at, n.below)));
+        at = rw same n.at;
+        number = rw same say.0;
+        weighs = rw same say.1;
+        enough = omega (arith, n.at, n.allowed.enough);
+        first = λ cs e l. n.least cs (allowed_from cs e l).0;
       }
+
+  -- such a place is a small number
+  pub first_low : (x : ℕ) → r.target + r.above ≤ 2 ^ 30 → FirstSum s from (Some x) → x < 2 ^ 61
+  first_low x l f = let n : First s.bounds.limit ws (ways r.age ws as') from s.bounds.to x = next_of (Some x) f in omega (arith, n.below, h.to)
+
+-- the first of all is the best
+pub first_is_best : (r : Rule) (ws as' : List ℕ) (p : Placed) → length ws ≤ 24 → FirstFitting r ws as' 0 p → BestBag (fits r ws as') ws p.bag
+first_is_best r ws as' p few f =
+    let cs = choice_from (length ws) p.bag.pans in
+    record {
+      choice = cs;
+      best = record {
+        allowed = f.allowed;
+        unbeaten = λ ds e. better_place ws ds cs few (fitting r ws as' ds e).whole (length_choice_from (length ws) p.bag.pans) ∙ le-ltb _ _ (omega (arith, f.at, f.first ds e (omega arith)));
+      };
+      number = f.number;
+      weighs = f.weighs;
+    }
+
+pub none_is_none : (r : Rule) (ws as' : List ℕ) → FirstFrom r ws as' 0 None → NoneOf (fits r ws as')
+none_is_none r ws as' f cs = ⊎_elim (λ e. absurd (omega (arith, f cs e))) (λ e. e) (cases_Bool (fits r ws as' cs))

@@ -11,7 +11,7 @@ use Rattle.halves.specs.Half.{Half}
 use Rattle.halves.specs.Next.{Allowed, Filled, Next, before, half_of}
 use Rattle.halves.specs.declared.filled.Halves.{Halves}
 use Rattle.halves.proofs.Joining.{tops_low, apart, least_of, first_of}
-use Rattle.halves.proofs.Placed.{half_whole}
+use Rattle.halves.proofs.RoomParts.{half_whole}
 
 module _ (ws : List ℕ) (vs : List Way) (s : Halves) (few : length ws ≤ 24) (paired : length vs ≡ length ws) (light : (i : ℕ) → get_or ws i 0 ≤ 1000000) (f : Filled ws vs s) where
   three : length ws ≡ before (length ws) + (half_of (length ws) + half_of (length ws))

@@ -11,7 +11,7 @@ use Rattle.halves_growth.specs.Part.{Part}
 use Rattle.halves_sieves.specs.Sieve.{part, Thinned}
 use Rattle.halves_sieves.specs.declared.bounds.Bounds.{Bounds}
 use Rattle.halves.specs.Half.{Half, Wanted}
-use Rattle.halves.proofs.Placed.{part_whole}
+use Rattle.halves.proofs.RoomParts.{part_whole}
 
 pub by_ways_cut : (n : ℕ) (vs : List Way) (cs : Choice) → by_ways vs cs ≡ true → (by_ways (take n vs) (take n cs) ≡ true) × (by_ways (drop n vs) (drop n cs) ≡ true)
 by_ways_cut zero vs cs h = (refl, h)

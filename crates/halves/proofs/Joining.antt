@@ -14,7 +14,7 @@ use Rattle.halves_sweeps.specs.Sweep.{Apart, LeastOf, Together, Triple}
 use Rattle.halves.specs.Half.{Half, Wanted}
 use Rattle.halves.specs.Next.{Allowed, First}
 use Rattle.halves.proofs.Cutting.{by_ways_uncut, pans_part, part_long, place_part, back_all}
-use Rattle.halves.proofs.Placed.{heavy_take, heavy_drop}
+use Rattle.halves.proofs.RoomParts.{heavy_take, heavy_drop}
 
 -- a choice of each part
 pub record Parts (us fs bs : Choice) (t h : ℕ) : Type 0 where

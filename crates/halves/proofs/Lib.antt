@@ -3,4 +3,4 @@ mod Answered
 mod Asking
 mod Cutting
 mod Joining
-mod Placed
+mod RoomParts

@@ -1,3 +1,4 @@
 -- The definitions that contracts cite.
+pub mod Asked
 pub mod Half
 pub mod Next

@@ -4,31 +4,18 @@ ghost use Rattle.choices.specs.Choice.{fits};
 ghost use Rattle.halves.specs.Next.{room_for};
 ghost use Rattle.order.specs.Order.{Found};
 
-use crate::halves::{fill, next};
+use crate::ring_halves::RingHalves;
 use choices::Ring;
-use halves_places::{Pans, bag_in, ways};
 use order::Bag;
 
-// The best choice by the ring's rule, found in a lent room; what the room holds afterwards has no meaning.
+/// The best choice by the ring's rule, or `None` where no choice fits.
+///
+/// Found in a lent room of at least [`room_for`](crate::room_for) entries for the ring's pans, whose contents are unspecified
+/// afterwards.
 pub fn best(ring: Ring, room: &mut [u64]) -> Option<Bag>
     requires { room_for (length ring.weights.now) ≤ length room.old }
     ensures { Found (fits ring.entry.rule ring.entry.weights.now ring.entry.ages.now) ring.entry.weights.now result }
 {
-    let count = ring.weights.len();
-    let made = ways(ring);
-    let pans = Pans {
-        weights: ring.weights,
-        ways: &made[..count],
-    };
-    let target = u64::from(ring.rule.target);
-    let above = u64::from(ring.rule.above);
-    let halves = fill(
-        pans,
-        ring.rule.pans,
-        ring.rule.target,
-        (target + above + 1) << 29,
-        room,
-    );
-    let place = next(pans, halves, target << 29)?;
-    Some(bag_in(ring, place))
+    let placed = RingHalves::of(ring, room).next_from(0)?;
+    Some(placed.bag)
 }

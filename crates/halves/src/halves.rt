@@ -1,9 +1,11 @@
 // The two halves in a lent room, and the pans before them: filled once, and asked for the next choice from any place on.
-ghost use Rattle.std.specs.Prelude.{◌≡◌, ℕ, ◌+◌, ◌-◌, ◌*◌, ◌^◌, ◌≤◌, length};
+ghost use Rattle.std.specs.Prelude.{◌≡◌, ℕ, ◌+◌, ◌-◌, ◌*◌, ◌^◌, ◌<◌, ◌≤◌, length, slice_index, take};
 ghost use Rattle.halves_growth.specs.Part.{Part};
+ghost use Rattle.halves.specs.Asked.{FirstSum};
 ghost use Rattle.halves.specs.Half.{Half};
 ghost use Rattle.halves.specs.Next.{Filled, Next, before, half_of, room_for};
 ghost use Rattle.halves_sieves.specs.Sieve.{part as part_of};
+ghost use Rattle.halves_sweeps.specs.Sweep.{Apart};
 
 use crate::filled::Halves;
 use crate::rooms::{entries, half_of};
@@ -64,7 +66,10 @@ fn halved<'a>(pans: Pans, half: usize, bounds: Bounds, room: &'a mut [u64]) -> L
     }
 }
 
-// Fills the room with what opens at most `limit` pans, weighs `least` or more and lies below `to`.
+/// Fills a lent room with the choices of the pans that their ways allow, that open at most `limit` pans, weigh `least` or more
+/// and have a place below `to`.
+///
+/// The room has at least [`room_for`](crate::room_for) entries, and stays lent.
 pub fn fill<'a>(pans: Pans, limit: u32, least: u32, to: u64, room: &'a mut [u64]) -> Halves<'a>
     requires { room_for (length pans.weights.now) ≤ length room.old }
     ensures filled { Filled pans.entry.weights.now pans.entry.ways.now result }
@@ -89,14 +94,27 @@ pub fn fill<'a>(pans: Pans, limit: u32, least: u32, to: u64, room: &'a mut [u64]
     }
 }
 
-// The first place from `from` on of a choice that is allowed; the halves hold none that weighs less than their least.
-pub fn next(pans: Pans, halves: Halves, from: u64) -> Option<u64>
-    requires filled { Filled pans.weights.now pans.ways.now halves }
-    requires enough { halves.bounds.least * 2 ^ 29 ≤ from }
-    ensures { Next halves.entry.bounds.limit pans.entry.weights.now pans.entry.ways.now from halves.entry.bounds.to result }
+// The first place from `from` on, below the end of what the halves hold, of a top and an entry of each half together.
+pub(crate) fn first_place(halves: Halves, from: u64) -> Option<u64>
+    requires few { length (take halves.top halves.tops) ≤ 4 }
+    requires low { (i : ℕ) → i < length (take halves.top halves.tops) → slice_index (take halves.top halves.tops) i < 2 ^ 62 }
+    requires apart { Apart (take halves.top halves.tops) halves.lists.front.now halves.lists.back.now }
+    ensures { FirstSum halves.entry from result }
 {
     let to = halves.bounds.to;
     let tops = &halves.tops[..halves.top];
     let found = least(tops, halves.lists, halves.bounds.limit, from, to);
     (found < to).then_some(found)
+}
+
+/// The first place from `from` on of a choice that is allowed: that opens and leaves shut what the pans' ways allow, opens no
+/// more pans than the halves' limit, and comes before their end. `None` where there is none.
+///
+/// The halves hold no choice that weighs less than their least, so `from` is at least that weight's first place.
+pub fn next(pans: Pans, halves: Halves, from: u64) -> Option<u64>
+    requires filled { Filled pans.weights.now pans.ways.now halves }
+    requires enough { halves.bounds.least * 2 ^ 29 ≤ from }
+    ensures { Next halves.entry.bounds.limit pans.entry.weights.now pans.entry.ways.now from halves.entry.bounds.to result }
+{
+    first_place(halves, from)
 }

@@ -1,4 +1,3 @@
 -- The lemmas that several proofs share, here and in the crates above.
 pub mod Places
 pub mod Rings
-pub mod Made

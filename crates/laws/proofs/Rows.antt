@@ -1,7 +1,8 @@
 -- Rows of bags of any kind: nothing is lost, no pan waits too long, and the bags weigh enough and not too much.
 use Rattle.std.proofs.Common.{◌≡◌, ℕ, suc, ◌+◌, List, length, inl, inr, sym, refl, ap, ◌∙◌, suc-mul, arith}
 use Rattle.choices.specs.Stand.{Stand, May, total, Young}
-use Rattle.choices.proofs.Leaving.{nothing_lost, length_marked, left_young}
+use Rattle.choices.proofs.Leaving.{nothing_lost, left_young}
+use Rattle.choices.proofs.Marked.{length_marked}
 use Rattle.engines.specs.Kinds.{Lawful}
 use Rattle.packing.specs.Entry.{Made}
 use Rattle.laws.specs.Rows.{Falls, done, keeps, takes, Bags, start, next}

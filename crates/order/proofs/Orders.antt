@@ -116,3 +116,8 @@ lt_by_three v w p q s t = lt_then v w _ ∙ ap (λ (b : Bool). ltb v w || (eqb v
 -- what is no lighter, opens no fewer pans of equals, and of those not the first one more, is not better
 pub not_better : (a b m n : ℕ) (f : Bool) → b ≤ a → (a ≡ b → n ≤ m) → (a ≡ b → m ≡ n → f ≡ false) → (ltb a b || (eqb a b && (ltb m n || (eqb m n && f)))) ≡ false
 not_better a b m n f heavy many first = grind (arith, nat_tests)
+
+-- what is not better is no lighter
+pub no_lighter : (ws : List ℕ) (cs ds : Choice) → better ws ds cs ≡ false → weight_of ws cs ≤ weight_of ws ds
+unfolding better
+no_lighter ws cs ds h = grind (arith, nat_tests)

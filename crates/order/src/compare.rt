@@ -6,15 +6,17 @@ ghost use Rattle.std.specs.Prelude.{◌≡◌, ◌+◌, ◌%◌, ◌^◌, length
 
 use choices::{Ring, Tally, look};
 
-// A choice and what was seen of it.
+/// A choice and its tally.
 #[derive(Clone, Copy)]
 pub struct Seen {
+    /// The choice in the lowest bits, pan 0 in the highest of them (not as in a [`Bag`](crate::Bag)).
     pub choice: u32,
+    /// What `choices::look` tells of the choice.
     pub tally: Tally,
 }
 
-// What decides between two choices, in this order: the lighter one; of equals the one with fewer pans; of these the one that
-// leaves less shut in the bits of its number, where pan 0 stands in the highest: it opens the first pan that differs.
+// Choices are ordered by weight, then by how many pans they open, then by the first pan that differs: the choice that opens it
+// comes first. As pan 0 is the highest bit, that is the choice whose shut pans make the smaller number.
 #[derive(Clone, Copy, PartialEq, Eq, PartialOrd, Ord)]
 struct Rank {
     weight: u32,
@@ -35,7 +37,7 @@ fn rank_of(ring: Ring, seen: Seen) -> Rank
     }
 }
 
-// Whether the first of two choices comes before the other, by what was seen of both.
+/// Whether `one` comes before `other`, by their tallies alone.
 pub fn ahead(ring: Ring, one: Seen, other: Seen) -> bool
     requires one { Tallied ring.weights.now ring.ages.now ring.rule.age (choice_of (length ring.weights.now) one.choice) one.tally }
     requires other { Tallied ring.weights.now ring.ages.now ring.rule.age (choice_of (length ring.weights.now) other.choice) other.tally }
@@ -54,7 +56,8 @@ fn look_at(ring: Ring, choice: u32) -> Seen
     }
 }
 
-// Whether the first of two choices comes before the other.
+/// Whether choice `a` of the ring comes before choice `b`: it is lighter, or opens fewer pans of equal ones, or of these opens
+/// the first pan that differs. Looks over the pans once for each; `ahead` compares choices that were looked at before.
 pub fn better(ring: Ring, a: u32, b: u32) -> bool
     ensures { result ≡ is_better ring.entry.weights.now (choice_of (length ring.entry.weights.now) a) (choice_of (length ring.entry.weights.now) b) }
 {

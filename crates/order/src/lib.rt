@@ -7,4 +7,4 @@ mod laws;
 
 pub use bag::Bag;
 pub use compare::{Seen, ahead, better};
-pub use laws::{best_is_one, better_is_an_order};
+pub use laws::{best_is_one, best_of_more, better_is_an_order, found_carries_over};

@@ -1,7 +1,6 @@
 -- A bag that was found and whose pans were opened is made; and two entries over the same pans answer the same.
-use Rattle.std.proofs.Common.{◌≡◌, ℕ, ◌≤◌, true, false, List, length, Some, None, Option, Ok, Err, sym, refl, ap, ◌∙◌, ap₂, arith}
+use Rattle.std.proofs.Common.{◌≡◌, ℕ, ◌≤◌, true, length, Some, None, Option, Ok, Err, sym, refl, ap, ◌∙◌, ap₂, arith}
 use Rattle.std.proofs.lemmas.Bool.{le-leb, both_ways}
-use Rattle.std.proofs.lemmas.Bool.Decides.{nat_tests}
 use Rattle.std.specs.Prelude.{IsSomeAnd}
 use Rattle.choices.specs.Choice.{Choice, emptied, aged, weight_of}
 use Rattle.choices.specs.Numbered.{choice_from, number_of}
@@ -13,9 +12,9 @@ use Rattle.choices.proofs.Choices.{fitting}
 use Rattle.choices.proofs.Leaving.{nothing_lost, left_young, left_in_order, looser_fits}
 use Rattle.choices.proofs.Numbers.{choice_from_number}
 use Rattle.halves.specs.Next.{room_for}
-use Rattle.order.specs.Order.{BestBag, better}
+use Rattle.order.specs.Order.{BestBag}
 use Rattle.order.specs.declared.bag.Bag.{Bag}
-use Rattle.order.proofs.Orders.{best_is_one}
+use Rattle.order.proofs.Orders.{best_is_one, no_lighter}
 use Rattle.packing.specs.Entry.{Made, Packs, Answer, Answered, Kept, Keeps, Promised}
 use Rattle.packing.specs.Laws.{EntriesAgree}
 use Rattle.packing.specs.Refusals.{first_refusal, room_refusal}
@@ -86,11 +85,6 @@ entries_agree rs s m d e t u enough a b = answered_alike (first_refusal 4 rs s) 
   where
     same : room_refusal rs s m ≡ first_refusal 4 rs s
     same = rw (le-leb (room_for (length s.weights)) m enough) (or_none (first_refusal 4 rs s))
-
--- what is not better is no lighter
-no_lighter : (ws : List ℕ) (cs ds : Choice) → better ws ds cs ≡ false → weight_of ws cs ≤ weight_of ws ds
-unfolding better
-no_lighter ws cs ds h = grind (arith, nat_tests)
 
 -- the best bag is no heavier than what a stricter rule allows, and there is one where a stricter rule allows something
 pub lightest :

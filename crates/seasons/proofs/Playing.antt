@@ -4,7 +4,8 @@ use Rattle.choices.specs.Stand.{Stand, stand, InOrder, May, by_rule, total}
 use Rattle.choices.specs.declared.limits.TheConstants.{LIMIT}
 use Rattle.choices.specs.declared.rule.Rule.{Rule}
 use Rattle.choices.proofs.Choices.{weight_le, opened_le}
-use Rattle.choices.proofs.Leaving.{length_marked, left_in_order}
+use Rattle.choices.proofs.Leaving.{left_in_order}
+use Rattle.choices.proofs.Marked.{length_marked}
 use Rattle.engines.specs.Kinds.{Lawful}
 use Rattle.engines.specs.Plain.{same_rule}
 use Rattle.order.specs.Order.{NoneOf}

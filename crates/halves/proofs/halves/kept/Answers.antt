@@ -1,7 +1,7 @@
 -- What is left of the proof of what is kept of a half.
 use Rattle.std.proofs.Common.{arith}
 use Rattle.halves.proofs.Cutting.{half_from}
-use Rattle.halves.proofs.Placed.{half_whole}
+use Rattle.halves.proofs.RoomParts.{half_whole}
 use Rattle.halves.proofs.halves.kept.Goals as goal
 
 pub thin-n-requires : goal.thin-n-requires

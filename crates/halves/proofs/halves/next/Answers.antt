@@ -2,8 +2,8 @@
 use Rattle.halves.proofs.Asking.{asked_few, asked_low, asked_apart, next_is}
 use Rattle.halves.proofs.halves.next.Goals as goal
 
-pub least-found-requires : goal.least-found-requires
-least-found-requires c =
+pub first_place-requires : goal.first_place-requires
+first_place-requires c =
     let p = c.args.pans in
     record {
       few = asked_few _ _ _ p.few p.paired p.light c.requires.filled;
@@ -14,4 +14,5 @@ least-found-requires c =
 pub returns : goal.returns
 returns c =
     let p = c.args.pans in
-    next_is _ _ _ p.few p.paired p.light c.requires.filled _ _ _ c.requires.enough c.least-found.ensures c.then_some.ensures
+    let e = c.first_place.ensures in
+    next_is _ _ _ p.few p.paired p.light c.requires.filled _ _ _ c.requires.enough e.1 e.2

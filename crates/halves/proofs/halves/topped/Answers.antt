@@ -4,7 +4,7 @@ use Rattle.std.proofs.lemmas.List.{get_or_append_left}
 use Rattle.halves_growth.proofs.Fronts.{rises_front}
 use Rattle.halves.specs.Next.{before}
 use Rattle.halves.proofs.Cutting.{long_part, few_part, half_from, part_made}
-use Rattle.halves.proofs.Placed.{few_tops, half_same}
+use Rattle.halves.proofs.RoomParts.{few_tops, half_same}
 use Rattle.halves.proofs.halves.topped.Goals as goal
 
 pub part-made-requires-clause-room : goal.part-made-requires-clause-room

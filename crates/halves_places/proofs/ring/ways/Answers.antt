@@ -2,7 +2,7 @@
 use Rattle.std.proofs.Common.{◌≡◌, ℕ, ◌<◌, ◌≤◌, length, get_or, rules, arith}
 use Rattle.halves_places.specs.Ring.{neither, way}
 use Rattle.halves_places.specs.declared.way.Way.{Way}
-use Rattle.halves_places.proofs.Made.{made_each}
+use Rattle.choices.proofs.Made.{made_each}
 use Rattle.halves_places.proofs.Rings.{ways_made}
 use Rattle.halves_places.proofs.ring.ways.Goals as goal
 

@@ -3,7 +3,7 @@ use Rattle.std.proofs.Common.{◌≡◌, ℕ, ◌+◌, ◌-◌, ◌*◌, ◌^◌
 use Rattle.std.proofs.lemmas.List.{append-nil, length-drop, length-take, take_all, get_or-replicate, get_or_past}
 use Rattle.std.proofs.lemmas.Bool.{cases_lt}
 use Rattle.halves_sieves.specs.Sieve.{Most}
-use Rattle.halves_places.proofs.Made.{made_each}
+use Rattle.choices.proofs.Made.{made_each}
 use Rattle.halves_sieves.proofs.Parts.{short_from}
 use Rattle.halves_sieves.proofs.Weighing.{most_none}
 use Rattle.halves_sieves.proofs.worth.worth.Goals as goal

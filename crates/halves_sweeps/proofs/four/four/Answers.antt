@@ -3,7 +3,7 @@ use Rattle.std.proofs.Common.{◌≡◌, ℕ, ◌-◌, ◌<◌, length, get_or, 
 use Rattle.halves_sweeps.specs.Sweep.{Any, LeastSum}
 use Rattle.halves_sweeps.specs.Lane.{Fresh}
 use Rattle.halves_sweeps.specs.declared.lane.Lane.{Lane}
-use Rattle.halves_places.proofs.Made.{made_each}
+use Rattle.choices.proofs.Made.{made_each}
 use Rattle.halves_sweeps.proofs.Sweeping.{least_fresh}
 use Rattle.halves_sweeps.proofs.four.four.Goals as goal
 

@@ -1,6 +1,7 @@
 -- An array made element by element by a closure that stays as it was.
 use Rattle.std.proofs.Common.{◌≡◌, ℕ, zero, suc, ◌+◌, ◌<◌, ◌≤◌, List, get_or, sym, subst, ⊎_elim, arith}
-use Rattle.std.proofs.lemmas.Bool.{cases_eq}
+use Rattle.std.proofs.lemmas.Bool.{cases_eq, cases_lt}
+use Rattle.std.proofs.lemmas.List.{get_or_past}
 use Rattle.std.specs.Array.{IsFromFnResult, IsFromFnResultFrom}
 use denote.Param.Members.{Called, Mut}
 
@@ -17,3 +18,10 @@ pub made_each :
     {F B : Type 0} {g : Mut F (ℕ × Unit {0}) B} {f : F} {ys : List B} {n : ℕ} → IsFromFnResult g f ys n → (P : ℕ → B → Type 0) →
     ((x : ℕ) (r : B) (q : F) → Called g f (x, tt) r q → (q ≡ f) × P x r) → (k : ℕ) (d : B) → k < n → P k (get_or ys k d)
 made_each {g = g} {f = f} {ys = ys} {n = n} m P h k d l = made_from g f P ys h n 0 m.each k d (omega arith) (omega arith)
+
+-- a bound on each call's number is one on the array's
+pub made_low :
+    {F : Type 0} {g : Mut F (ℕ × Unit {0}) ℕ} {f : F} {ys : List ℕ} {n : ℕ} → IsFromFnResult g f ys n → (m : ℕ) →
+    ((x : ℕ) (r : ℕ) (q : F) → Called g f (x, tt) r q → (q ≡ f) × (r ≤ m)) → (i : ℕ) → get_or ys i 0 ≤ m
+made_low {ys = ys} {n = n} h m each i =
+    ⊎_elim (λ l. made_each h (λ _ r. r ≤ m) each i 0 l) (λ l. omega (arith, get_or_past ys i 0 (omega (arith, h.long)))) (cases_lt i n)
