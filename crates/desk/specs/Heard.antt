@@ -7,10 +7,10 @@ use Rattle.std.specs.Prelude.{◌≡◌, ℕ, ◌⊎◌, List, Some, None, Ok, E
 use Rattle.answers.specs.declared.refusal.Refusal.TheVariants.{Line}
 use Rattle.text.specs.Reading.{Begun, Passed, Says, Unwritten}
 use Rattle.text.specs.declared.commands.Command.{Command}
-use Rattle.text.specs.declared.commands.Fault.{Fault}
-use Rattle.text.specs.declared.commands.Fault.TheVariants.{NoMemory}
-use Rattle.text.specs.declared.replies.Reply.{Reply}
-use Rattle.text.specs.declared.replies.Reply.TheVariants.{Refused}
+use Rattle.text.specs.declared.faults.Fault.{Fault}
+use Rattle.text.specs.declared.faults.Fault.TheVariants.{NoMemory}
+use Rattle.desk.specs.declared.printed.Reply.{Reply}
+use Rattle.desk.specs.declared.printed.Reply.TheVariants.{Refused}
 use Rattle.desk.specs.Kept.{State}
 use Rattle.desk.specs.Obeys.{Obeys}
 

@@ -4,8 +4,8 @@ use Rattle.answers.specs.Refusals.{refusal_number, refusal_place}
 use Rattle.answers.specs.declared.played.Played.{Played}
 use Rattle.answers.specs.declared.refusal.Refusal.{Refusal}
 use Rattle.order.specs.declared.bag.Bag.{Bag}
-use Rattle.text.specs.declared.replies.Reply.{Reply}
-use Rattle.text.specs.declared.replies.Reply.TheVariants.{Open, None as NoChoice, Refused, Season}
+use Rattle.desk.specs.declared.printed.Reply.{Reply}
+use Rattle.desk.specs.declared.printed.Reply.TheVariants.{Open, None as NoChoice, Refused, Season}
 use Rattle.text.specs.Written.{numeral, spaced}
 
 -- the pans below k that the number opens, the lowest first: bit i is pan i

@@ -1,10 +1,10 @@
 -- The word, the pans and the weight, one after another.
 use Rattle.std.proofs.Common.{◌++◌, codes, refl, arith}
-use Rattle.text.specs.Replies.{pans_below}
+use Rattle.desk.specs.Printed.{pans_below}
 use Rattle.text.specs.Written.{numeral, spaced}
 use Rattle.text.proofs.Numerals.{decimal_is}
 use Rattle.text.proofs.Printing.{put_then}
-use Rattle.text.proofs.replies.put_open.Goals as goal
+use Rattle.desk.proofs.printed.put_open.Goals as goal
 
 pub returns : goal.returns
 returns g c = λ plain ok.

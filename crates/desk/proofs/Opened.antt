@@ -1,7 +1,7 @@
 -- One pan more of those that a number opens.
 use Rattle.std.proofs.Common.{◌≡◌, ℕ, ◌+◌, ◌/◌, ◌%◌, ◌^◌, cond, eqb, [], ◌∷◌, ◌++◌, sym, ap, ◌∙◌, append-nil, add-one}
 use Rattle.std.proofs.lemmas.Bool.{cond-true, cond-false, eq-eqb, ne_eqb}
-use Rattle.text.specs.Replies.{pans_below}
+use Rattle.desk.specs.Printed.{pans_below}
 use Rattle.text.specs.Written.{spaced}
 use Rattle.text.proofs.Spacing.{spaced_append}
 

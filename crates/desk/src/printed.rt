@@ -2,13 +2,13 @@
 ghost use Rattle.answers.specs.Refusals.{refusal_number, refusal_place};
 ghost use Rattle.std.specs.Fmt.{WritesOnOk};
 ghost use Rattle.std.specs.Prelude.{◌≡◌, Some};
-ghost use Rattle.text.specs.Replies.{said, open_text, refused_text, season_text, pans_below, reply_of, season_reply};
+ghost use Rattle.desk.specs.Printed.{said, open_text, refused_text, season_text, pans_below, reply_of, season_reply};
 ghost use Rattle.text.specs.Written.{spaced};
 
-use crate::numbers::put_number;
 use answers::{Played, Refusal};
 use order::Bag;
 use std::fmt;
+use text::put_number;
 
 #[derive(Clone, Copy)]
 pub enum Reply {

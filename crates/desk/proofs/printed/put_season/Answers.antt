@@ -2,8 +2,8 @@
 use Rattle.std.proofs.Common.{◌≡◌, cond, [], codes, arith}
 use Rattle.text.proofs.Numerals.{decimal_is}
 use Rattle.text.proofs.Printing.{put_as}
-use Rattle.text.proofs.replies.put_season.Goals as goal
-use Rattle.text.proofs.replies.put_season.Goals.{then-ended_early, else-ended_early}
+use Rattle.desk.proofs.printed.put_season.Goals as goal
+use Rattle.desk.proofs.printed.put_season.Goals.{then-ended_early, else-ended_early}
 
 pub returns : goal.returns
 returns g c = λ plain ok.

@@ -2,7 +2,7 @@
 use Rattle.std.proofs.Common.{arith}
 use Rattle.text.proofs.Numerals.{decimal_is}
 use Rattle.text.proofs.Printing.{put_as}
-use Rattle.text.proofs.replies.put_refused.Goals as goal
+use Rattle.desk.proofs.printed.put_refused.Goals as goal
 
 pub returns : goal.returns
 returns g c = λ plain ok.

@@ -1,11 +1,11 @@
 -- One pan more is looked at each turn.
 use Rattle.std.proofs.Common.{refl}
 use Rattle.std.proofs.Output.{has_written_to_eq}
-use Rattle.text.specs.Replies.{pans_below}
-use Rattle.text.proofs.Opened.{pans_open, pans_shut}
+use Rattle.desk.specs.Printed.{pans_below}
+use Rattle.desk.proofs.Opened.{pans_open, pans_shut}
 use Rattle.text.proofs.Printing.{put_none, put_as, put_then}
-use Rattle.text.proofs.replies.put_pans.Goals as goal
-use Rattle.text.proofs.replies.put_pans.Goals.{then-pans-pan-eq1+in_ok-put_number, else-pans-pan-eq1}
+use Rattle.desk.proofs.printed.put_pans.Goals as goal
+use Rattle.desk.proofs.printed.put_pans.Goals.{then-pans-pan-eq1+in_ok-put_number, else-pans-pan-eq1}
 
 pub loop-pan-init : goal.loop-pan-init
 unfolding pans_below
