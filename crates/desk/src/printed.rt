@@ -10,6 +10,7 @@ use order::Bag;
 use std::fmt;
 use text::put_number;
 
+/// What is answered to a command.
 #[derive(Clone, Copy)]
 pub enum Reply {
     Open(Bag),

@@ -8,7 +8,7 @@ use crate::numbers::put_line;
 use crate::words::Word;
 use std::fmt;
 
-/// A word and as many numbers as it takes.
+/// A line of the language: a word, and as many numbers as it takes.
 #[derive(Drop)]
 pub struct Command {
     pub word: Word,

@@ -42,7 +42,10 @@ fn behind(heap: Global, word: Word, text: &[u8]) -> Result<Vec<u32>, Fault>
     }
 }
 
-// What a line says, without its line end: a command, or nothing.
+/// What a line says, given without its line end: a command, or nothing where it is empty or begins with `#`.
+///
+/// Of a number above `u32::MAX` that is kept. Fails as `Unreadable` where the bytes are how no command is written, and as
+/// `NoMemory` where there is none for the numbers; a word that takes no numbers asks for none.
 pub fn read(heap: Global, line: &[u8]) -> Result<Option<Command>, Fault>
     ensures { Reads line.now result }
 {
@@ -63,7 +66,7 @@ fn held_whole(numbers: &[u32])
     let _ = numbers.is_empty();
 }
 
-// A command written and read again.
+/// A command written and read again: the same one comes back.
 pub fn reread(heap: Global, command: &Command) -> Result<Command, Fault>
     ensures { Rereads command.now result }
 {
