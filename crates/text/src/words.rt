@@ -69,14 +69,14 @@ impl Word {
     pub fn spelling(self) -> &'static str
         ensures { result.now ≡ spelling self }
     {
-        ROWS[self as usize].1
+        ROWS.as_slice()[self as usize].1
     }
 
     /// How many numbers the word takes.
     pub fn count(self) -> Count
         ensures { result ≡ count_of self }
     {
-        ROWS[self as usize].2
+        ROWS.as_slice()[self as usize].2
     }
 }
 
