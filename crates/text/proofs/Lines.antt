@@ -1,5 +1,5 @@
 -- A line as a word and the numbers behind it.
-use Rattle.std.proofs.Common.{◌≡◌, ℕ, ◌+◌, ◌<◌, ◌≤◌, false, true≢false, IsTrue, vec_items, List, [], ◌∷◌, ◌++◌, map, length, get_or, take, drop, Err, sym, refl, ap, ◌∙◌, subst, ⊎_elim, arith, take-append-drop}
+use Rattle.std.proofs.Common.{◌≡◌, ℕ, ◌+◌, ◌<◌, ◌≤◌, false, true≢false, IsTrue, vec_items, List, ◌∷◌, ◌++◌, map, length, get_or, take, drop, Err, sym, refl, ap, ◌∙◌, subst, ⊎_elim, arith, take-append-drop}
 use Rattle.std.proofs.ByRecursion.{All-from_get_or}
 use Rattle.std.proofs.lemmas.List.{length-map, get_or-take, length-take-le, drop_more, drop_all}
 use Rattle.std.proofs.lemmas.Bool.{cases_lt}
@@ -15,7 +15,7 @@ use Rattle.text.specs.Table.{spelling, count_of}
 use Rattle.text.specs.Written.{spaced, written}
 use Rattle.text.proofs.Cuts.{Outside, same_cut, cut_at}
 use Rattle.text.proofs.Found.{outside_spaced, same_spaced}
-use Rattle.text.proofs.Rows.{Dark, dark_spelling, plain_start, same_word}
+use Rattle.text.proofs.Rows.{Dark, dark_spelling, same_word}
 
 no_dark_spaced : (ns : List ℕ) → Outside Dark (spaced ns)
 no_dark_spaced = outside_spaced Dark (λ other. other refl)

@@ -1,5 +1,5 @@
 -- What holds of every word, computed from the table's rows.
-use Rattle.std.proofs.Common.{◌≡◌, ℕ, ◌<◌, ◌≤◌, Bool, true, not, true≢false, ◌==◌, List, [], ◌∷◌, map, length, get_or, Option, Some, unwrap_or, refl, sym, ap, ◌∙◌, arith, nat_eq}
+use Rattle.std.proofs.Common.{◌≡◌, ℕ, ◌<◌, ◌≤◌, true, not, true≢false, ◌==◌, List, [], ◌∷◌, map, length, get_or, Option, Some, unwrap_or, refl, sym, ap, ◌∙◌, arith, nat_eq}
 use Rattle.std.proofs.lemmas.Bool.{and_parts}
 use Rattle.std.proofs.lemmas.List.{get_or-map}
 use Rattle.std.specs.Borrow.{Bor}

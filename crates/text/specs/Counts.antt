@@ -1,5 +1,5 @@
 -- How many numbers a word may take.
-use Rattle.std.specs.Prelude.{ℕ, ◌%◌, Bool, true, false, ◌==◌, nat_le, nat_lt}
+use Rattle.std.specs.Prelude.{ℕ, ◌%◌, Bool, true, ◌==◌, nat_le, nat_lt}
 use Rattle.text.specs.declared.words.Count.{Count}
 use Rattle.text.specs.declared.words.Count.TheVariants.{Just, Any, NoneOrOne, OneAndPairs}
 

@@ -1,7 +1,7 @@
 -- The table of the words: how each is spelled, and how many numbers it takes.
 use Rattle.std.specs.Prelude.{ℕ, List, codes}
 use Rattle.text.specs.declared.words.Count.{Count}
-use Rattle.text.specs.declared.words.Count.TheVariants.{Just, Any, NoneOrOne, OneAndPairs}
+use Rattle.text.specs.declared.words.Count.TheVariants.{Just, Any}
 use Rattle.text.specs.declared.words.Word.{Word}
 use Rattle.text.specs.declared.words.Word.TheVariants.{Rule, Pans, Ages, Handfuls, Bag, Fall, Bags}
 

@@ -1,5 +1,5 @@
 -- A name is what its row spells, or what no row does.
-use Rattle.std.proofs.Common.{◌≡◌, ◌<◌, ◌≤◌, true≢false, length, map, refl, sym, ap, ◌∙◌, below_more}
+use Rattle.std.proofs.Common.{◌≡◌, true≢false, length, map, refl, sym, ap, ◌∙◌, below_more}
 use lib.Pointwise.{bytes_decides}
 use Rattle.text.specs.Table.{spelling}
 use Rattle.text.proofs.Rows.{spellings, no_row, row_spells, row_text}
