@@ -21,7 +21,7 @@ no_dark_spaced : (ns : List ℕ) → Outside Dark (spaced ns)
 no_dark_spaced = outside_spaced Dark (λ other. other refl)
 
 -- a line is written in one way
-pub same_line : (v w : Word) (ms ns : List ℕ) → written v ms ≡ written w ns → (v ≡ w) × (ms ≡ ns)
+same_line : (v w : Word) (ms ns : List ℕ) → written v ms ≡ written w ns → (v ≡ w) × (ms ≡ ns)
 same_line v w ms ns e =
     let r = same_cut Dark (spelling v) (spelling w) (spaced ms) (spaced ns) (dark_spelling v) (dark_spelling w) (no_dark_spaced ms) (no_dark_spaced ns) e in
     (same_word v w r.0, same_spaced ms ns r.1)

@@ -68,8 +68,3 @@ dark_from (b ∷ bs) e = let p = and_parts _ _ e in (λ blank. true≢false (sym
 
 pub dark_spelling : (w : Word) → All Dark (spelling w)
 dark_spelling w = dark_from (spelling w) (no_blank w)
-
--- a spelling is not empty, and does not begin as a remark
-pub plain_start : (w : Word) → not (get_or (spelling w) 0 35 == 35) ≡ true
-plain_start Rule = refl
-plain_start w = refl

@@ -44,8 +44,8 @@ fn behind(heap: Global, word: Word, text: &[u8]) -> Result<Vec<u32>, Fault>
 
 /// What a line says, given without its line end: a command, or nothing where it is empty or begins with `#`.
 ///
-/// Of a number above `u32::MAX` that is kept. Fails as `Unreadable` where the bytes are how no command is written, and as
-/// `NoMemory` where there is none for the numbers; a word that takes no numbers asks for none.
+/// A number above `u32::MAX` is read as `u32::MAX`. The error is `Unreadable` where the bytes are how no command is
+/// written, and `NoMemory` where there is no memory for the numbers. A word that takes no numbers asks for none.
 pub fn read(heap: Global, line: &[u8]) -> Result<Option<Command>, Fault>
     ensures { Reads line.now result }
 {
