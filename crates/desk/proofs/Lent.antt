@@ -1,7 +1,7 @@
 -- What is kept in vectors is lent as slices: what holds of the slices holds of the vectors.
 use Rattle.std.proofs.Common.{◌≡◌, ℕ, List, Option}
 use Rattle.seasons.specs.Fall.{fall_refusal}
-use Rattle.text.specs.declared.replies.Reply.{Reply}
+use Rattle.desk.specs.declared.printed.Reply.{Reply}
 use Rattle.desk.specs.Replies.{Bagged, PlayedSo, FellSo}
 
 pub bagged_at :

@@ -2,15 +2,15 @@
 --   Quiet      a line that is passed over: nothing is said, nothing changes
 --   Unread     a line that is how no command is written: it is turned away at its number, and nothing changes
 --   Obeyed     a line that is how a command is written: the command is obeyed
---   Short      memory fails for the numbers of a list, as only the lines that begin as one ask for it: nothing changes
+--   Short      memory fails for the numbers, for which only a line asks that begins as a command with numbers: nothing changes
 use Rattle.std.specs.Prelude.{◌≡◌, ℕ, ◌⊎◌, List, Some, None, Ok, Err, Option, Result}
 use Rattle.answers.specs.declared.refusal.Refusal.TheVariants.{Line}
 use Rattle.text.specs.Reading.{Begun, Passed, Says, Unwritten}
 use Rattle.text.specs.declared.commands.Command.{Command}
-use Rattle.text.specs.declared.commands.Fault.{Fault}
-use Rattle.text.specs.declared.commands.Fault.TheVariants.{NoMemory}
-use Rattle.text.specs.declared.replies.Reply.{Reply}
-use Rattle.text.specs.declared.replies.Reply.TheVariants.{Refused}
+use Rattle.text.specs.declared.faults.Fault.{Fault}
+use Rattle.text.specs.declared.faults.Fault.TheVariants.{NoMemory}
+use Rattle.desk.specs.declared.printed.Reply.{Reply}
+use Rattle.desk.specs.declared.printed.Reply.TheVariants.{Refused}
 use Rattle.desk.specs.Kept.{State}
 use Rattle.desk.specs.Obeys.{Obeys}
 

@@ -3,3 +3,4 @@ pub mod Replies
 pub mod Heard
 pub mod Kept
 pub mod Obeys
+pub mod Printed

@@ -1,9 +1,10 @@
 -- What each command does to what is kept, and what is answered. Assumes nothing: these are definitions.
-use Rattle.std.specs.Prelude.{◌≡◌, ℕ, Some, None, vec_items, Option}
+use Rattle.std.specs.Prelude.{◌≡◌, ℕ, List, Some, None, vec_items, Option, slice_index}
 use Rattle.seasons.specs.Fall.{fall_refusal}
 use Rattle.text.specs.declared.commands.Command.{Command}
-use Rattle.text.specs.declared.commands.Command.TheVariants.{Rule, Pans, Ages, Handfuls, Bag, Fall, Bags}
-use Rattle.text.specs.declared.replies.Reply.{Reply}
+use Rattle.text.specs.declared.words.Word.{Word}
+use Rattle.text.specs.declared.words.Word.TheVariants.{Rule, Pans, Ages, Handfuls, Bag, Fall, Bags}
+use Rattle.desk.specs.declared.printed.Reply.{Reply}
 use Rattle.desk.specs.Replies.{Bagged, PlayedSo, FellSo}
 use Rattle.desk.specs.Kept.{State}
 
@@ -30,11 +31,15 @@ pub record HandfulFell (s t : State) (pan grams line : ℕ) (r : Option Reply) :
   pub ages : t.ages ≡ s.ages
   pub rest : Rest s t
 
+-- the word obeyed with its numbers
+abbrev pub ObeysWord : Word → (numbers : List ℕ) → (line : ℕ) → (before after : State) → Option Reply → Type 0
+ObeysWord Rule ns l s t r = (r ≡ None) × (t ≡ record { rule = ns; pans = s.pans; ages = s.ages; handfuls = s.handfuls; entries = s.entries })
+ObeysWord Pans ns l s t r = (r ≡ None) × (t ≡ record { rule = s.rule; pans = ns; ages = s.ages; handfuls = s.handfuls; entries = s.entries })
+ObeysWord Ages ns l s t r = (r ≡ None) × (t ≡ record { rule = s.rule; pans = s.pans; ages = ns; handfuls = s.handfuls; entries = s.entries })
+ObeysWord Handfuls ns l s t r = (r ≡ None) × (t ≡ record { rule = s.rule; pans = s.pans; ages = s.ages; handfuls = ns; entries = s.entries })
+ObeysWord Bag ns l s t r = BagMade s t r
+ObeysWord Fall ns l s t r = HandfulFell s t (slice_index ns 0) (slice_index ns 1) l r
+ObeysWord Bags ns l s t r = SeasonPlayed s t (slice_index ns 0) l r
+
 abbrev pub Obeys : Command → (line : ℕ) → (before after : State) → Option Reply → Type 0
-Obeys (Rule xs) l s t r = (r ≡ None) × (t ≡ record { rule = vec_items xs; pans = s.pans; ages = s.ages; handfuls = s.handfuls; entries = s.entries })
-Obeys (Pans xs) l s t r = (r ≡ None) × (t ≡ record { rule = s.rule; pans = vec_items xs; ages = s.ages; handfuls = s.handfuls; entries = s.entries })
-Obeys (Ages xs) l s t r = (r ≡ None) × (t ≡ record { rule = s.rule; pans = s.pans; ages = vec_items xs; handfuls = s.handfuls; entries = s.entries })
-Obeys (Handfuls xs) l s t r = (r ≡ None) × (t ≡ record { rule = s.rule; pans = s.pans; ages = s.ages; handfuls = vec_items xs; entries = s.entries })
-Obeys Bag l s t r = BagMade s t r
-Obeys (Fall p w) l s t r = HandfulFell s t p w l r
-Obeys (Bags n) l s t r = SeasonPlayed s t n l r
+Obeys c l s t r = ObeysWord c.word (vec_items c.numbers) l s t r

@@ -7,9 +7,9 @@ use Rattle.choices.specs.Ruled.{rule_in}
 use Rattle.packing.specs.Entry.{Answer, Answered}
 use Rattle.packing.specs.Refusals.{room_refusal}
 use Rattle.seasons.specs.Season.{season_refusal, Seasoned, Keeps}
-use Rattle.text.specs.Replies.{reply_of, season_reply}
-use Rattle.text.specs.declared.replies.Reply.{Reply}
-use Rattle.text.specs.declared.replies.Reply.TheVariants.{Refused}
+use Rattle.desk.specs.Printed.{reply_of, season_reply}
+use Rattle.desk.specs.declared.printed.Reply.{Reply}
+use Rattle.desk.specs.declared.printed.Reply.TheVariants.{Refused}
 
 -- a bag was asked for: it is answered as the entry over a room answers it, and the refusal has its place
 pub record Bagged (rs ws as' : List ℕ) (entries : ℕ) (ws₁ as₁ : List ℕ) (r : Reply) : Type 0 where

@@ -4,9 +4,10 @@ ghost use Rattle.desk.specs.Kept.{state_of};
 
 use crate::kept::Desk;
 use crate::obeying::obey;
+use crate::printed::Reply;
 use answers::Refusal;
 use std::alloc::Global;
-use text::{Fault, Reply, read};
+use text::{Fault, read};
 
 // What is answered to a line, given without its end, and by its number from 0 on: nothing where there is nothing to say.
 // A fault is want of memory, and then nothing changes.

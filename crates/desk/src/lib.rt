@@ -4,8 +4,10 @@
 mod hearing;
 mod kept;
 mod obeying;
+mod printed;
 mod replies;
 
 pub use hearing::hear;
 pub use kept::{Desk, empty_desk};
 pub use obeying::obey;
+pub use printed::Reply;

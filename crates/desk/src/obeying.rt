@@ -3,47 +3,51 @@ ghost use Rattle.desk.specs.Kept.{state_of};
 ghost use Rattle.desk.specs.Obeys.{Obeys};
 
 use crate::kept::Desk;
+use crate::printed::Reply;
 use crate::replies::{bag_reply, fall_reply, season_reply};
-use text::{Command, Reply};
+use text::{Command, Word};
 
-// Does what a command asks for, and answers what is printed; the line is where it stands.
+/// Does what a command asks for, and answers what is printed, if anything is. The line is where the command stands,
+/// counted from 0.
 pub fn obey(desk: &mut Desk, command: Command, line: u64) -> Option<Reply>
     ensures { Obeys command line (state_of desk.old) (state_of desk.new) result }
 {
-    match command {
-        Command::Rule(numbers) => {
+    let Command { word, numbers } = command;
+    match (word, numbers.as_slice()) {
+        (Word::Rule, _) => {
             desk.rule = numbers;
             None
         }
-        Command::Pans(weights) => {
-            desk.pans = weights;
+        (Word::Pans, _) => {
+            desk.pans = numbers;
             None
         }
-        Command::Ages(ages) => {
-            desk.ages = ages;
+        (Word::Ages, _) => {
+            desk.ages = numbers;
             None
         }
-        Command::Handfuls(weights) => {
-            desk.handfuls = weights;
+        (Word::Handfuls, _) => {
+            desk.handfuls = numbers;
             None
         }
-        Command::Bag => Some(bag_reply(
+        (Word::Bag, _) => Some(bag_reply(
             &desk.rule,
             &mut desk.pans,
             &mut desk.ages,
             &mut desk.entries,
             &mut desk.bytes,
         )),
-        Command::Fall(pan, grams) => fall_reply(&mut desk.pans, pan, grams, line),
-        Command::Bags(bags) => Some(season_reply(
+        (Word::Fall, [pan, grams]) => fall_reply(&mut desk.pans, *pan, *grams, line),
+        (Word::Bags, [bags]) => Some(season_reply(
             &desk.rule,
             &mut desk.pans,
             &mut desk.ages,
             &desk.handfuls,
-            bags,
+            *bags,
             line,
             &mut desk.entries,
             &mut desk.bytes,
         )),
+        _ => unreachable!(),
     }
 }

@@ -3,10 +3,10 @@ ghost use Rattle.desk.specs.Replies.{Bagged, FellSo, PlayedSo};
 ghost use Rattle.seasons.specs.Fall.{fall_refusal};
 ghost use Rattle.std.specs.Prelude.{length};
 
+use crate::printed::Reply;
 use engines::Rooms;
 use packing::bag_in;
 use seasons::{fall, season};
-use text::Reply;
 
 // A bag is made of the lent pans, or it is said why not. Entries and bytes are lent one by one: lent as `Rooms`, the desk's
 // proof no longer knew afterwards how many entries it has.

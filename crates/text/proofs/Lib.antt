@@ -1,11 +1,10 @@
--- Lemmas that several proofs share.
-mod Counts
+-- Lemmas that several proofs share, here and in the crates above.
 mod Cuts
 mod Digits
 mod Found
 mod Lines
 mod Listing
-mod Numerals
-mod Opened
-mod Printing
-mod Spacing
+pub mod Numerals
+pub mod Printing
+mod Rows
+pub mod Spacing

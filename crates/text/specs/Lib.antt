@@ -1,6 +1,6 @@
 -- What the contracts cite.
-pub mod Commands
+pub mod Counts
 pub mod Reading
-pub mod Replies
 pub mod Scanning
+pub mod Table
 pub mod Written

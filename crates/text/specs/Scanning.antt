@@ -4,8 +4,8 @@ use Rattle.std.specs.Borrow.{Bor}
 use Rattle.std.specs.declared.alloc.Global.{Global}
 use Rattle.std.specs.Str.Parse.{AllDigits, digits_value}
 use Rattle.std.specs.Int.{IsInRange}
-use Rattle.text.specs.declared.commands.Fault.{Fault}
-use Rattle.text.specs.declared.commands.Fault.TheVariants.{Unreadable, NoMemory}
+use Rattle.text.specs.declared.faults.Fault.{Fault}
+use Rattle.text.specs.declared.faults.Fault.TheVariants.{Unreadable, NoMemory}
 use Rattle.text.specs.Written.{numeral, spaced}
 
 -- what is kept of a number in 32 bits: the largest one where it is larger
@@ -28,18 +28,6 @@ pub record Begins (bs : List ℕ) (n : ℕ) (rest : List ℕ) : Type 0 where
 
 abbrev pub NextNumber : List ℕ → Option (ℕ × Bor (List ℕ)) → Type 0
 NextNumber bs r = MatchOption r ((ns : List ℕ) → bs ≡ spaced ns → ns ≡ []) (λ x. Begins bs x.0 x.1.now)
-
--- k numbers and nothing behind them
-abbrev pub Exactly : ℕ → List ℕ → Result (List ℕ) Fault → Type 0
-Exactly k bs (Ok xs) = (ns : List ℕ) × (length ns ≡ k) × (bs ≡ spaced ns) × (xs ≡ map capped ns)
-Exactly k bs (Err Unreadable) = (ns : List ℕ) → length ns ≡ k → bs ≢ spaced ns
-Exactly k bs (Err NoMemory) = ⊥
-
-abbrev pub OneNumber : List ℕ → Option ℕ → Type 0
-OneNumber bs r = MatchOption r ((n : ℕ) → bs ≢ spaced (n ∷ [])) (λ x. (n : ℕ) × (bs ≡ spaced (n ∷ [])) × (x ≡ capped n))
-
-abbrev pub TwoNumbers : List ℕ → Option (ℕ × ℕ) → Type 0
-TwoNumbers bs r = MatchOption r ((m n : ℕ) → bs ≢ spaced (m ∷ n ∷ [])) (λ x. (m : ℕ) × (n : ℕ) × (bs ≡ spaced (m ∷ n ∷ [])) × (x.0 ≡ capped m) × (x.1 ≡ capped n))
 
 abbrev pub Listed : List ℕ → Result (Vec ℕ Global) Fault → Type 0
 Listed bs (Ok v) = (ns : List ℕ) × (bs ≡ spaced ns) × (vec_items v ≡ map capped ns)

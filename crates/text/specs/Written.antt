@@ -2,16 +2,7 @@
 use Rattle.std.specs.Prelude.{ℕ, ◌+◌, cond, List, [], ◌∷◌, ◌++◌, map, codes, ◌==◌}
 use Rattle.std.specs.Int.Digits.{digits_of}
 use Rattle.text.specs.declared.words.Word.{Word}
-use Rattle.text.specs.declared.words.Word.TheVariants.{Rule, Pans, Ages, Handfuls, Bag, Fall, Bags}
-
-abbrev pub spelling : Word → List ℕ
-spelling Rule = codes "rule"
-spelling Pans = codes "pans"
-spelling Ages = codes "ages"
-spelling Handfuls = codes "handfuls"
-spelling Bag = codes "bag"
-spelling Fall = codes "fall"
-spelling Bags = codes "bags"
+use Rattle.text.specs.Table.{spelling}
 
 -- a number of any size in decimal: `0`, or digits that don't begin with one
 unfoldable pub numeral : ℕ → List ℕ

@@ -1,14 +1,15 @@
-// The lines of text that the program reads, and those that it prints.
+// The lines of text that the program reads: a word and its numbers.
 #![tactic(auto)]
 
 mod commands;
+mod faults;
 mod numbers;
 mod reading;
-mod replies;
 mod scanning;
 mod words;
 
-pub use commands::{Command, Fault};
+pub use commands::Command;
+pub use faults::Fault;
+pub use numbers::put_number;
 pub use reading::{read, reread};
-pub use replies::Reply;
-pub use words::Word;
+pub use words::{Count, Word};

@@ -6,7 +6,7 @@ ghost use Rattle.std.specs.Prelude.{[], ◌∷◌};
 use crate::words::Word;
 use std::fmt;
 
-// One number after its blank.
+/// Writes a number after a blank.
 pub fn put_number<W: fmt::Write>(f: &mut fmt::Formatter<W>, n: u32) -> fmt::Result
     ensures { WritesOnOk W.write_str_gives f.old result (spaced (n ∷ [])) f.new }
 {

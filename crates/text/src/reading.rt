@@ -1,11 +1,12 @@
 // A line of bytes as the command that it says.
 ghost use Rattle.std.specs.Prelude.{◌≡◌, ℕ, ◌<◌, ◌≤◌, map, length, MatchBool, ◌≢◌, slice_index};
-ghost use Rattle.text.specs.Commands.{numbers_of};
+ghost use Rattle.text.specs.Table.{count_of};
 ghost use Rattle.text.specs.Scanning.{capped};
-ghost use Rattle.text.specs.Reading.{Passed, Filled, Reads, Rereads};
+ghost use Rattle.text.specs.Reading.{Passed, Behind, Reads, Rereads};
 
-use crate::commands::{Command, Fault};
-use crate::scanning::{exactly, numbers};
+use crate::commands::Command;
+use crate::faults::Fault;
+use crate::scanning::numbers;
 use crate::words::Word;
 use std::alloc::Global;
 
@@ -25,31 +26,26 @@ fn word_end(line: &[u8]) -> usize
     line.iter().position(|b| *b == b' ').unwrap_or(line.len())
 }
 
-// The command with this word and the numbers in the text.
-fn command(heap: Global, word: Word, text: &[u8]) -> Result<Command, Fault>
-    ensures { Filled word text.now result }
+// The numbers behind a word, if it takes so many. A word that takes none asks for no memory.
+fn behind(heap: Global, word: Word, text: &[u8]) -> Result<Vec<u32>, Fault>
+    ensures { Behind (count_of word) text.now result }
 {
-    match word {
-        Word::Rule => Ok(Command::Rule(numbers(heap, text)?)),
-        Word::Pans => Ok(Command::Pans(numbers(heap, text)?)),
-        Word::Ages => Ok(Command::Ages(numbers(heap, text)?)),
-        Word::Handfuls => Ok(Command::Handfuls(numbers(heap, text)?)),
-        Word::Bag => {
-            let [] = exactly::<0>(text)?;
-            Ok(Command::Bag)
-        }
-        Word::Fall => {
-            let [pan, weight] = exactly::<2>(text)?;
-            Ok(Command::Fall(pan, weight))
-        }
-        Word::Bags => {
-            let [count] = exactly::<1>(text)?;
-            Ok(Command::Bags(count))
-        }
+    let count = word.count();
+    if !count.takes_some() && !text.is_empty() {
+        return Err(Fault::Unreadable);
+    }
+    let numbers = numbers(heap, text)?;
+    if count.takes(numbers.len()) {
+        Ok(numbers)
+    } else {
+        Err(Fault::Unreadable)
     }
 }
 
-// What a line says, without its line end: a command, or nothing.
+/// What a line says, given without its line end: a command, or nothing where it is empty or begins with `#`.
+///
+/// A number above `u32::MAX` is read as `u32::MAX`. The error is `Unreadable` where the bytes are how no command is
+/// written, and `NoMemory` where there is no memory for the numbers. A word that takes no numbers asks for none.
 pub fn read(heap: Global, line: &[u8]) -> Result<Option<Command>, Fault>
     ensures { Reads line.now result }
 {
@@ -58,7 +54,8 @@ pub fn read(heap: Global, line: &[u8]) -> Result<Option<Command>, Fault>
     }
     let (name, text) = line.split_at(word_end(line));
     let word = Word::try_from(name)?;
-    Ok(Some(command(heap, word, text)?))
+    let numbers = behind(heap, word, text)?;
+    Ok(Some(Command { word, numbers }))
 }
 
 // No number of a slice is larger than what 32 bits hold.
@@ -69,26 +66,11 @@ fn held_whole(numbers: &[u32])
     let _ = numbers.is_empty();
 }
 
-// The same of a command's numbers: a proof knows it of a slice, and not of what an enum holds.
-fn holds_whole(command: &Command)
-    ensures { map capped (numbers_of command.now) ≡ numbers_of command.now }
-{
-    match command {
-        Command::Rule(numbers) => held_whole(numbers.as_slice()),
-        Command::Pans(weights) => held_whole(weights.as_slice()),
-        Command::Ages(ages) => held_whole(ages.as_slice()),
-        Command::Handfuls(weights) => held_whole(weights.as_slice()),
-        Command::Bag => {}
-        Command::Fall(pan, weight) => held_whole(&[*pan, *weight]),
-        Command::Bags(count) => held_whole(&[*count]),
-    }
-}
-
-// A command written and read again.
+/// A command written and read again: the same one comes back.
 pub fn reread(heap: Global, command: &Command) -> Result<Command, Fault>
     ensures { Rereads command.now result }
 {
-    holds_whole(command);
+    held_whole(command.numbers.as_slice());
     let line = command.to_string(heap)?;
     Ok(read(heap, line.as_bytes())?.unwrap())
 }

@@ -1,7 +1,7 @@
 // Numbers found in a line, each after a blank.
-ghost use Rattle.text.specs.Scanning.{Figures, NextNumber, Exactly, Listed};
+ghost use Rattle.text.specs.Scanning.{Figures, NextNumber, Listed};
 
-use crate::commands::Fault;
+use crate::faults::Fault;
 use std::alloc::Global;
 
 // The number that the digits at the front write, at most `u32::MAX`, and how many digits there are.
@@ -35,21 +35,6 @@ fn next(text: &[u8]) -> Option<(u32, &[u8])>
         [b'0', _, ..] => None,
         _ => Some((value, rest)),
     }
-}
-
-// N numbers and nothing behind them.
-pub fn exactly<const N: usize>(text: &[u8]) -> Result<[u32; N], Fault>
-    ensures { Exactly N text.now result }
-{
-    let mut numbers = [0; N];
-    let mut rest = text;
-    for number in numbers.iter_mut() {
-        (*number, rest) = next(rest).ok_or(Fault::Unreadable)?;
-    }
-    if !rest.is_empty() {
-        return Err(Fault::Unreadable);
-    }
-    Ok(numbers)
 }
 
 // All numbers, to the end of the text.

@@ -4,11 +4,12 @@
 #[cfg(test)]
 mod tests {
     use answers::{Played, Refusal};
+    use desk::Reply;
     use order::Bag;
     use std::alloc::Global;
     use std::process::Abort;
     use std::test::Fail;
-    use text::{Fault, Reply, read};
+    use text::{Fault, read};
 
     // What a line says, written again; a blank line gives nothing.
     fn again(heap: Global, line: &str) -> Result<String, Fault> {

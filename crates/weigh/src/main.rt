@@ -9,10 +9,16 @@ fn run(rt: &HostRuntime) -> anyhow::Result<()> {
     let heap = rt.alloc();
     let mut desk = empty_desk(heap)?;
     let mut out = BufWriter::new(heap, rt.stdout())?;
-    let lines = BufReader::new(heap, rt.stdin())?.split(heap, b'\n');
-    for (number, line) in lines.enumerate() {
-        let line = line?;
-        let Ok(answer) = hear(&mut desk, heap, &line, number as u64) else {
+    let mut input = BufReader::new(heap, rt.stdin())?;
+    // One room for every line, so that a line asks for no memory of its own.
+    let mut line = Vec::new(heap);
+    for number in 0..u64::MAX {
+        line.clear();
+        if input.read_until(b'\n', &mut line)? == 0 {
+            break;
+        }
+        let text = line.strip_suffix(b"\n").unwrap_or(&line);
+        let Ok(answer) = hear(&mut desk, heap, text, number) else {
             return Err(anyhow!("no memory for a line"));
         };
         if let Some(reply) = answer {

@@ -14,8 +14,8 @@ returns-in_err-word c =
     rw (p.1, p.2, c.in_err-word.ensures.0)
     (c.if-passed_over.ensures, no_word _ _ (blank (goal.at.returns-in_err-word c).After-word_end) (λ w e. c.in_err-word.ensures.1 w (c.split_at.ensures.front ∙ e)))
 
-pub returns-in_err-command : goal.returns-in_err-command
-returns-in_err-command c =
-    let p = err_from_is_err_and c.from_residual-in_err-command.result c.from_residual-in_err-command.ensures.1 in
+pub returns-in_err-numbers : goal.returns-in_err-numbers
+returns-in_err-numbers c =
+    let p = err_from_is_err_and c.from_residual-in_err-numbers.result c.from_residual-in_err-numbers.ensures.1 in
     rw (p.1, p.2)
-    (unread _ _ (blank (goal.at.returns-in_err-command c).After-word_end) c.in_ok-word.word (sym c.split_at.ensures.front ∙ c.in_ok-word.ensures) _ c.split_at.ensures.back c.if-passed_over.ensures _ c.in_err-command.ensures)
+    (unread _ _ (blank (goal.at.returns-in_err-numbers c).After-word_end) c.in_ok-word.word (sym c.split_at.ensures.front ∙ c.in_ok-word.ensures) _ c.split_at.ensures.back c.if-passed_over.ensures _ c.in_err-numbers.ensures)

@@ -1,0 +1,9 @@
+-- The numbers are there, but not so many as the word takes.
+use Rattle.std.proofs.Common.{sym, ◌∙◌}
+use Rattle.text.proofs.Lines.{not_so_many}
+use Rattle.text.proofs.reading.behind.Goals as goal
+
+pub returns-else-takes : goal.returns-else-takes
+returns-else-takes c =
+    let read = c.in_ok-numbers.ensures in
+    not_so_many _ _ _ read.0 read.1 read.2 (rw (c.count-count.ensures, c.len.ensures ∙ c.in_ok-numbers.numbers.ok.0) at (sym c.takes.ensures ∙ c.if-takes.false))
