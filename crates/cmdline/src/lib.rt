@@ -1,0 +1,9 @@
+// What a command line asks of the program, over the kit's parser of command lines.
+#![tactic(auto)]
+
+mod command;
+mod reading;
+#[cfg(test)]
+mod tests;
+
+pub use reading::{Asked, Run, asked_by};
