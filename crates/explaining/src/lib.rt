@@ -4,6 +4,8 @@
 mod flaws;
 mod reasons;
 mod telling;
+#[cfg(test)]
+mod tests;
 mod words;
 
 pub use flaws::Flaw;
