@@ -1,27 +1,99 @@
 // The program: reads commands from a file or from standard input, a line each, and prints what the desk answers.
 #![tactic(auto)]
 
-use anyhow::{anyhow, bail};
+use anyhow::{Context, anyhow};
 use cmdline::{Asked, Run, asked_by};
 use desk::{empty_desk, hear};
 use explaining::reason_of;
-use std::alloc::Global;
 use std::env;
 use std::fs::File;
-use std::io::{self, BufRead, BufReader, BufWriter, Read, Write};
+use std::io::{BufRead, BufReader, BufWriter, Read, Stdout, Write};
 use std::process::ExitCode;
 use text::Reply;
 
 // The words that a command begins with.
 const WORDS: [&str; 7] = ["rule", "pans", "ages", "bag", "fall", "handfuls", "bags"];
 
-// The status where a refusal ended the run, as it does under `--strict`, and where it could not go on or was asked wrongly.
+// The status where a refusal ended the run, as it does under `--strict`, and where the program was asked wrongly or can't go on.
 const REFUSED: u8 = 1;
 const WRONG: u8 = 2;
 
-// Says on standard error why a line was turned away.
-fn explain(rt: &HostRuntime, number: u64, line: &[u8], refusal: Refusal) -> anyhow::Result<()> {
-    let reason = reason_of(rt.alloc(), line, refusal, WORDS.as_slice())?;
-    eprintln!(rt; "line {number}: {reason}")?;
-    Ok(())
+// What the program writes to: answers are gathered, and written out before more is waited for.
+type Answers = BufWriter<Stdout>;
+
+// Prints the answer to a line, with the reason of a refusal where that is asked for, and says whether the run ends here.
+fn answer(rt: &HostRuntime, run: Run<'_>, out: &mut Answers, number: u64, line: &[u8], reply: Reply) -> anyhow::Result<bool> {
+    writeln!(out, "{reply}")?;
+    let Reply::Refused(refusal) = reply else {
+        return Ok(false);
+    };
+    if run.explain {
+        out.flush()?;
+        let reason = reason_of(rt.alloc(), line, refusal, WORDS.as_slice())?;
+        eprintln!(rt; "line {number}: {reason}")?;
+    }
+    Ok(run.strict)
+}
+
+// Runs the commands of a reader, and answers the status to end with.
+fn serve<R: Read + Drop>(rt: &HostRuntime, run: Run<'_>, mut lines: BufReader<R>) -> anyhow::Result<u8> {
+    let heap = rt.alloc();
+    let mut desk = empty_desk(heap)?;
+    let mut out = BufWriter::new(heap, rt.stdout())?;
+    let mut line = Vec::new(heap);
+    let mut status = 0;
+    for number in 0..u64::MAX {
+        line.clear();
+        if lines.read_until(b'\n', &mut line)? == 0 {
+            break;
+        }
+        if line.last() == Some(&b'\n') {
+            line.pop();
+        }
+        let Ok(heard) = hear(&mut desk, heap, line.as_slice(), number) else {
+            return Err(anyhow!("no memory for line {number}"));
+        };
+        if let Some(reply) = heard && answer(rt, run, &mut out, number, line.as_slice(), reply)? {
+            status = REFUSED;
+            break;
+        }
+        if lines.buffer().is_empty() {
+            out.flush()?;
+        }
+    }
+    out.flush()?;
+    Ok(status)
+}
+
+// Does what the command line asks for, and answers the status to end with.
+fn answered(rt: &HostRuntime) -> anyhow::Result<u8> {
+    let heap = rt.alloc();
+    let words: Vec<String> = env::args(rt)?.collect(heap)?;
+    match asked_by(heap, words.as_slice())? {
+        Asked::Tell(text) => {
+            print!(rt; "{text}")?;
+            Ok(0)
+        }
+        Asked::Wrong(text) => {
+            eprint!(rt; "{text}")?;
+            Ok(WRONG)
+        }
+        Asked::Run(run) => match run.file {
+            Some(path) => {
+                let file = File::open(rt, path).context(format_args!("no file of commands at {path}"))?;
+                serve(rt, run, BufReader::new(heap, file)?)
+            }
+            None => serve(rt, run, BufReader::new(heap, rt.stdin())?),
+        },
+    }
+}
+
+fn main(rt: HostRuntime) -> anyhow::Result<ExitCode> {
+    match answered(&rt) {
+        Ok(status) => Ok(ExitCode::from(status)),
+        Err(error) => {
+            eprintln!(rt; "weigh: {error:#}")?;
+            Ok(ExitCode::from(WRONG))
+        }
+    }
 }
