@@ -8,7 +8,8 @@ use std::alloc::{AllocError, Global};
 
 const PROVED_WITH: &str = "(proved with rattle-kit-13f logic dac8208d650f15bf)";
 
-const ABOUT: &str = "Opens, for every bag, the pans that make the best one: a combination weigher's decisions, proved correct.";
+const ABOUT: &str =
+    "Opens, for every bag, the pans that make the best one: a combination weigher's decisions, proved correct.";
 
 const COMMANDS: &str = "Commands, one a line:
   rule T A P O   a bag weighs at least T and at most A more, of at most P pans; who has waited O bags is in it

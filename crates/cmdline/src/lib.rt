@@ -3,7 +3,5 @@
 
 mod command;
 mod reading;
-#[cfg(test)]
-mod tests;
 
 pub use reading::{Asked, Run, asked_by};

@@ -53,12 +53,15 @@ fn run_of<'a>(matches: &ArgMatches<'a>) -> Run<'a>
 pub fn asked_by<'a, S: AsStr>(heap: Global, words: &'a [S]) -> Result<Asked<'a>, AllocError>
     ensures { IfOk result (AsksFor (map S.text words.entry.now)) }
 {
-    match weigh_command(heap)?.try_get_matches_from(words) {
-        Ok(matches) => Ok(Asked::Run(run_of(&matches))),
-        Err(error) => match error.kind() {
-            ErrorKind::OutOfMemory => Err(AllocError),
-            ErrorKind::DisplayHelp | ErrorKind::DisplayVersion => Ok(Asked::Tell(error.to_string(heap)?)),
-            _ => Ok(Asked::Wrong(error.to_string(heap)?)),
-        },
+    let error = match weigh_command(heap)?.try_get_matches_from(words) {
+        Ok(matches) => return Ok(Asked::Run(run_of(&matches))),
+        Err(error) => error,
+    };
+    match error.kind() {
+        ErrorKind::OutOfMemory => Err(AllocError),
+        ErrorKind::DisplayHelp | ErrorKind::DisplayVersion => {
+            Ok(Asked::Tell(error.to_string(heap)?))
+        }
+        _ => Ok(Asked::Wrong(error.to_string(heap)?)),
     }
 }

@@ -24,7 +24,7 @@ fn is_digit(line: &[u8], place: usize) -> bool
     }
 }
 
-// What is wrong at a place of the line, by the byte there and its neighbours. In front of the line and behind it stands a blank.
+// What is wrong at a place of the line, by the byte there and its neighbours. A blank stands before the line and behind it.
 fn flaw_at(line: &[u8], place: usize) -> Option<Flaw>
     requires { place < length line.now }
     ensures { result ≡ flaw_at line.now place }

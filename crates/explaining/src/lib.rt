@@ -4,8 +4,6 @@
 mod flaws;
 mod reasons;
 mod telling;
-#[cfg(test)]
-mod tests;
 mod words;
 
 pub use flaws::Flaw;

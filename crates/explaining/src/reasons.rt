@@ -32,9 +32,11 @@ pub enum Reason<'a> {
 impl fmt::Display for Flaw {
     fn fmt<W: fmt::Write>(&self, f: &mut fmt::Formatter<W>) -> fmt::Result {
         f.write_str(match self {
-            Flaw::CarriageReturn => "a carriage return: the file has another system's line ends; write it with line feeds alone",
+            Flaw::CarriageReturn =>
+                "a carriage return: the file has another system's line ends; write it with line feeds alone",
             Flaw::Tab => "a tab: put one blank in its place",
-            Flaw::Blank => "a blank too many: single blanks stand between the numbers, and none at either end",
+            Flaw::Blank =>
+                "a blank too many: single blanks stand between the numbers, and none at either end",
             Flaw::Sign => "a sign: numbers are written without one",
             Flaw::LeadingZero => "a number that begins with 0: write it without leading zeros",
         })
@@ -54,14 +56,17 @@ impl fmt::Display for Reason<'_> {
         match *self {
             Reason::Flawed(flaw, place) => write!(f, "at byte {place}, {flaw}"),
             Reason::Unknown(near) => put_unknown(f, near),
-            Reason::Stray(place) => write!(f, "at byte {place}, no digit: behind the word stand only numbers"),
+            Reason::Stray(place) => write!(
+                f,
+                "at byte {place}, no digit: behind the word stand only numbers"
+            ),
             Reason::Bag => f.write_str("`bag` stands alone; for several bags write `bags N`"),
             Reason::Fall => f.write_str("write `fall P W`: the pan has to be there and empty"),
             Reason::Bags => f.write_str("write `bags N` with at most 1000000 bags at a time"),
             Reason::Unread => f.write_str("write the command as the guide has it"),
             Reason::Rule(place) => write!(
                 f,
-                "number {place} of the rule is wrong: write `rule T A P O`, four numbers of at most 1000000, the first at least 1"
+                "number {place} of the rule is wrong: `rule T A P O` are four numbers of at most 1000000, T at least 1"
             ),
             Reason::Pans(count) => write!(
                 f,

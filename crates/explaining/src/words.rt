@@ -18,7 +18,11 @@ pub fn is_known(words: &[&str], name: &[u8]) -> bool
 }
 
 /// The known word that the fewest edits of a byte lead to, where two or less do.
-pub fn nearest<'a>(heap: Global, words: &[&'a str], name: &[u8]) -> Result<Option<&'a str>, AllocError>
+pub fn nearest<'a>(
+    heap: Global,
+    words: &[&'a str],
+    name: &[u8],
+) -> Result<Option<&'a str>, AllocError>
     ensures { IfOk result (NearestOf name.now words.now) }
 {
     let mut found = None;

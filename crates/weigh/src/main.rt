@@ -14,15 +14,23 @@ use text::Reply;
 // The words that a command begins with.
 const WORDS: [&str; 7] = ["rule", "pans", "ages", "bag", "fall", "handfuls", "bags"];
 
-// The status where a refusal ended the run, as it does under `--strict`, and where the program was asked wrongly or can't go on.
+// The status where a refusal ended the run, as under `--strict`, and where the program was asked wrongly or can't go on.
 const REFUSED: u8 = 1;
+
 const WRONG: u8 = 2;
 
 // What the program writes to: answers are gathered, and written out before more is waited for.
 type Answers = BufWriter<Stdout>;
 
 // Prints the answer to a line, with the reason of a refusal where that is asked for, and says whether the run ends here.
-fn answer(rt: &HostRuntime, run: Run<'_>, out: &mut Answers, number: u64, line: &[u8], reply: Reply) -> anyhow::Result<bool> {
+fn answer(
+    rt: &HostRuntime,
+    run: Run<'_>,
+    out: &mut Answers,
+    number: u64,
+    line: &[u8],
+    reply: Reply,
+) -> anyhow::Result<bool> {
     writeln!(out, "{reply}")?;
     let Reply::Refused(refusal) = reply else {
         return Ok(false);
@@ -36,7 +44,11 @@ fn answer(rt: &HostRuntime, run: Run<'_>, out: &mut Answers, number: u64, line: 
 }
 
 // Runs the commands of a reader, and answers the status to end with.
-fn serve<R: Read + Drop>(rt: &HostRuntime, run: Run<'_>, mut lines: BufReader<R>) -> anyhow::Result<u8> {
+fn serve<R: Read + Drop>(
+    rt: &HostRuntime,
+    run: Run<'_>,
+    mut lines: BufReader<R>,
+) -> anyhow::Result<u8> {
     let heap = rt.alloc();
     let mut desk = empty_desk(heap)?;
     let mut out = BufWriter::new(heap, rt.stdout())?;
@@ -53,7 +65,9 @@ fn serve<R: Read + Drop>(rt: &HostRuntime, run: Run<'_>, mut lines: BufReader<R>
         let Ok(heard) = hear(&mut desk, heap, line.as_slice(), number) else {
             return Err(anyhow!("no memory for line {number}"));
         };
-        if let Some(reply) = heard && answer(rt, run, &mut out, number, line.as_slice(), reply)? {
+        if let Some(reply) = heard
+            && answer(rt, run, &mut out, number, line.as_slice(), reply)?
+        {
             status = REFUSED;
             break;
         }
@@ -80,7 +94,9 @@ fn answered(rt: &HostRuntime) -> anyhow::Result<u8> {
         }
         Asked::Run(run) => match run.file {
             Some(path) => {
-                let file = File::open(rt, path).context(format_args!("no file of commands at {path}"))?;
+                let file = File::open(rt, path).context(format_args!(
+                    "no file of commands at {path}"
+                ))?;
                 serve(rt, run, BufReader::new(heap, file)?)
             }
             None => serve(rt, run, BufReader::new(heap, rt.stdin())?),

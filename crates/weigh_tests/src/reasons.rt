@@ -1,6 +1,6 @@
 // What is told of lines that are no commands, and of refusals.
-use crate::telling::reason_of;
 use answers::Refusal;
+use explaining::reason_of;
 use std::process::Abort;
 use std::test::Fail;
 
@@ -39,9 +39,25 @@ fn words_and_numbers(rt: HostRuntime) -> Result<(), Fail> {
 
 #[test]
 fn refusals(rt: HostRuntime) -> Result<(), Fail> {
-    assert!(rt; told(&rt, "bag", Refusal::Rule(3))?.as_str().contains("number 3 of the rule"));
-    assert!(rt; told(&rt, "bag", Refusal::Pans(2))?.as_str().contains("2 pans or ages"));
-    assert!(rt; told(&rt, "bag", Refusal::Number(9))?.as_str().contains("number 9 of the pans"));
-    assert!(rt; told(&rt, "bag", Refusal::Room(64))?.as_str().contains("64 entries"));
+    assert!(rt;
+        told(&rt, "bag", Refusal::Rule(3))?
+            .as_str()
+            .contains("number 3 of the rule")
+    );
+    assert!(rt;
+        told(&rt, "bag", Refusal::Pans(2))?
+            .as_str()
+            .contains("2 pans or ages")
+    );
+    assert!(rt;
+        told(&rt, "bag", Refusal::Number(9))?
+            .as_str()
+            .contains("number 9 of the pans")
+    );
+    assert!(rt;
+        told(&rt, "bag", Refusal::Room(64))?
+            .as_str()
+            .contains("64 entries")
+    );
     Ok(())
 }
