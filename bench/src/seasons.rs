@@ -1,6 +1,6 @@
 //! What the best choice saves: seasons of bags by the proved library beside the best of some random tries, on the same handfuls.
 //!
-//!     seasons [BAGS [SEED]]
+//!     seasons [BAGS [SEED [AGE]]]
 //!
 //! Handfuls of around 25 units come from a list that is drawn once, in tenths of a unit. It is played twice: as a scale shows it
 //! that weighs to the unit, and to the tenth. Each machine takes its handfuls from the list's start, one after another. Its season
@@ -140,7 +140,7 @@ fn mean(given_away: &[u32]) -> (f64, f64) {
 /// One season to play: which scale, how many pans, which machine.
 type Task = (u32, usize, Machine);
 
-fn played(tasks: &[Task], handfuls: &[u32], bags: usize, seed: u64) -> Vec<Outcome> {
+fn played(tasks: &[Task], handfuls: &[u32], bags: usize, seed: u64, age: u32) -> Vec<Outcome> {
     let (next, done) = (Mutex::new(0), Mutex::new(tasks.iter().map(|_| None).collect::<Vec<_>>()));
     let units: Vec<u32> = handfuls.iter().map(|tenths| (tenths + 5) / 10).collect();
     std::thread::scope(|scope| {
@@ -154,7 +154,7 @@ fn played(tasks: &[Task], handfuls: &[u32], bags: usize, seed: u64) -> Vec<Outco
                     };
                     let Some((parts, pans, machine)) = tasks.get(at) else { break };
                     let list = if *parts == 1 { &units } else { handfuls };
-                    let outcome = season(*machine, [100 * parts, 10 * parts, 6, 9], *pans, list, bags, seed + at as u64);
+                    let outcome = season(*machine, [100 * parts, 10 * parts, 6, age], *pans, list, bags, seed + at as u64);
                     done.lock().unwrap()[at] = Some(outcome);
                 }
             });
@@ -188,14 +188,14 @@ fn show(parts: u32, outcomes: &[Outcome], bags: usize) {
 
 fn main() {
     let mut words = std::env::args().skip(1).map(|word| word.parse::<u64>().expect("a number"));
-    let (bags, seed) = (words.next().unwrap_or(20_000) as usize, words.next().unwrap_or(27));
+    let (bags, seed, age) = (words.next().unwrap_or(20_000) as usize, words.next().unwrap_or(27), words.next().unwrap_or(9) as u32);
     let mut x = Random(seed);
     // A bag takes at most six handfuls, and a new beginning as many as there are pans.
     let handfuls: Vec<u32> = (0..bags * 24 + 100).map(|_| 90 + (0..4).map(|_| x.within(0, 80)).sum::<u32>()).collect();
     let machines: Vec<Machine> = std::iter::once(Machine::Best).chain(TRIES.map(Machine::Tries)).collect();
     let tasks: Vec<Task> = [1, 10].iter().flat_map(|parts| PANS.iter().flat_map(|pans| machines.iter().map(|m| (*parts, *pans, *m)))).collect();
-    let outcomes = played(&tasks, &handfuls, bags, seed);
-    println!("Seasons of {bags} bags by the rule 100 10 6 9 (100 units, at most 10 above, 6 pans, none waits for more than 9 bags), seed {seed}.");
+    let outcomes = played(&tasks, &handfuls, bags, seed, age);
+    println!("Seasons of {bags} bags by the rule 100 10 6 {age} (100 units, at most 10 above, 6 pans, none waits for more than {age} bags), seed {seed}.");
     println!("Handfuls: 9 to 41 units, 25 on average, with a spread of {:.1}.", spread(&handfuls) / 10.0);
     let half = outcomes.len() / 2;
     show(1, &outcomes[..half], bags);
