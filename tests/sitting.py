@@ -62,6 +62,10 @@ def line_by_line(group, program):
         ("a season of no bag", b"bags 0", b"bags 0: 0, 0 given away"),
     ]:
         group.same(f"{label} is answered before more is written", line, sitting.ask(line), expected)
+    sitting.ran.stdin.write(b"bag 4\nbags")
+    sitting.ran.stdin.flush()
+    group.same("a line is answered while the next one is begun", b"bag 4, bags", sitting.answer(), b"refused 4 at 8")
+    group.same("and that one when it is whole", b" 0", sitting.ask(b" 0"), b"bags 0: 0, 0 given away")
     group.same("the end of input ends it", b"", sitting.close(), (0, b"", b""))
 
 
@@ -83,7 +87,7 @@ def reader_goes_away(group, program):
         sitting.ran.kill()
         status = None
     said = sitting.ran.stderr.read()
-    group.check(f"it ends, and not well, when nobody reads: status {status}, said {said!r}", status not in (None, 0) and said.count(b"\n") <= 1)
+    group.same("it ends without a word when nobody reads on", "bag", (status, said), (2, b""))
 
 
 def run(program, words, data=b"", **how):

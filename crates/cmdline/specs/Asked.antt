@@ -7,7 +7,7 @@
 --   IsFlag       whether a flag is given
 --   IsRun        the file and the flags are those that the rows have
 --   AsksFor      a run where nothing is wrong; help or the version where that is asked for; else it is told what is wrong
-use Rattle.std.specs.Prelude.{◌≡◌, ◌≢◌, ◌==◌, ◌⊎◌, ℕ, Bool, true, false, List, [], Option, Some, None, codes, option_map}
+use Rattle.std.specs.Prelude.{◌≡◌, ◌≢◌, ◌⊎◌, Bool, true, false, List, [], Option, Some, None, codes, option_map}
 use Rattle.std.specs.Prelude.{if◌then◌else◌}
 use Rattle.std.specs.Str.{bytes_eq}
 use Rattle.clap.specs.Words.{App, Row, Rule, Text, IsAmong, Kinds, fault_of, first_of, matches_of, new_app, new_rule, one_of, with_rule}

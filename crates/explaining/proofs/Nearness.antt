@@ -1,9 +1,9 @@
 -- The nearest of the words that were looked at.
-use Rattle.std.proofs.Common.{◌≡◌, ◌≤◌, ◌<◌, ◌+◌, ℕ, List, [], inl, inr, subst, arith}
+use Rattle.std.proofs.Common.{◌≡◌, ◌≤◌, ◌<◌, ◌+◌, ℕ, List, inl, inr, subst, arith}
 use Rattle.std.proofs.lemmas.Bool.{cases_lt}
-use Rattle.std.specs.Prelude.{All, MatchOption, Option, Some, None}
+use Rattle.std.specs.Prelude.{All, MatchOption, Option}
 use Rattle.std.specs.Borrow.{Bor}
-use Rattle.explaining.specs.Words.{NearestOf, edits_to}
+use Rattle.explaining.specs.Words.{edits_to}
 
 -- the least number of edits is that of the word found, or three where none is
 pub record Nearest (name : List ℕ) (words : List (Bor (List ℕ))) (found : Option (Bor (List ℕ))) (least : ℕ) : Type 0 where

@@ -6,7 +6,7 @@
 --   usage_of    what is told of a command that can be read and not obeyed
 --   Cause       the reason for a line that is no command, or can't be obeyed: the first of these that applies
 --   Told        the reason for what a line was turned away with
-use Rattle.std.specs.Prelude.{◌≡◌, ◌≢◌, ◌≤◌, ◌<◌, ◌+◌, ◌&&◌, ◌==◌, ℕ, Bool, not, true, false, List, length, take, drop, codes, Option, Some, None, if◌then◌else◌}
+use Rattle.std.specs.Prelude.{◌≡◌, ◌≢◌, ◌≤◌, ◌<◌, ◌+◌, ◌&&◌, ◌==◌, ℕ, Bool, not, true, false, List, length, take, drop, codes, Some, None, if◌then◌else◌}
 use Rattle.std.specs.Prelude.{slice_index}
 use Rattle.std.specs.Char.{is_ascii_digit}
 use Rattle.std.specs.Borrow.{Bor}

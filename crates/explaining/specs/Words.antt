@@ -2,7 +2,7 @@
 --
 --   edits_to    the least number of bytes put in, taken away or changed
 --   NearestOf   a known word that at most two edits lead to, and none that fewer lead to; or that each takes three
-use Rattle.std.specs.Prelude.{◌≡◌, ◌≤◌, ℕ, List, length, Option, MatchOption, All, Contains, nat_eq}
+use Rattle.std.specs.Prelude.{◌≤◌, ℕ, List, length, Option, MatchOption, All, nat_eq}
 use Rattle.std.specs.Borrow.{Bor}
 use Rattle.strsim.specs.Edits.{levenshtein_row}
 

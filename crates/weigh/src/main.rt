@@ -1,13 +1,12 @@
 // The program: reads commands from a file or from standard input, a line each, and prints what the desk answers.
 #![tactic(auto)]
 
-use anyhow::{Context, anyhow};
 use cmdline::{Asked, Run, asked_by};
 use desk::{empty_desk, hear};
 use explaining::reason_of;
 use std::env;
 use std::fs::File;
-use std::io::{BufRead, BufReader, BufWriter, Read, Stdout, Write};
+use std::io::{self, BufRead, BufReader, BufWriter, ErrorKind, Read, Stdout, Write};
 use std::process::ExitCode;
 use text::Reply;
 
@@ -30,7 +29,7 @@ fn answer(
     number: u64,
     line: &[u8],
     reply: Reply,
-) -> anyhow::Result<bool> {
+) -> io::Result<bool> {
     writeln!(out, "{reply}")?;
     let Reply::Refused(refusal) = reply else {
         return Ok(false);
@@ -48,7 +47,7 @@ fn serve<R: Read + Drop>(
     rt: &HostRuntime,
     run: Run<'_>,
     mut lines: BufReader<R>,
-) -> anyhow::Result<u8> {
+) -> io::Result<u8> {
     let heap = rt.alloc();
     let mut desk = empty_desk(heap)?;
     let mut out = BufWriter::new(heap, rt.stdout())?;
@@ -63,7 +62,7 @@ fn serve<R: Read + Drop>(
             line.pop();
         }
         let Ok(heard) = hear(&mut desk, heap, line.as_slice(), number) else {
-            return Err(anyhow!("no memory for line {number}"));
+            return Err(io::Error::from(ErrorKind::OutOfMemory));
         };
         if let Some(reply) = heard
             && answer(rt, run, &mut out, number, line.as_slice(), reply)?
@@ -71,7 +70,8 @@ fn serve<R: Read + Drop>(
             status = REFUSED;
             break;
         }
-        if lines.buffer().is_empty() {
+        // No further line is at hand whole, so the next one may have to be waited for.
+        if !lines.buffer().contains(&b'\n') {
             out.flush()?;
         }
     }
@@ -80,7 +80,7 @@ fn serve<R: Read + Drop>(
 }
 
 // Does what the command line asks for, and answers the status to end with.
-fn answered(rt: &HostRuntime) -> anyhow::Result<u8> {
+fn answered(rt: &HostRuntime) -> io::Result<u8> {
     let heap = rt.alloc();
     let words: Vec<String> = env::args(rt)?.collect(heap)?;
     match asked_by(heap, words.as_slice())? {
@@ -93,22 +93,26 @@ fn answered(rt: &HostRuntime) -> anyhow::Result<u8> {
             Ok(WRONG)
         }
         Asked::Run(run) => match run.file {
-            Some(path) => {
-                let file = File::open(rt, path).context(format_args!(
-                    "no file of commands at {path}"
-                ))?;
-                serve(rt, run, BufReader::new(heap, file)?)
-            }
+            Some(path) => match File::open(rt, path) {
+                Ok(file) => serve(rt, run, BufReader::new(heap, file)?),
+                Err(error) => {
+                    eprintln!(rt; "weigh: no file of commands at {path}: {error}")?;
+                    Ok(WRONG)
+                }
+            },
             None => serve(rt, run, BufReader::new(heap, rt.stdin())?),
         },
     }
 }
 
-fn main(rt: HostRuntime) -> anyhow::Result<ExitCode> {
+fn main(rt: HostRuntime) -> io::Result<ExitCode> {
     match answered(&rt) {
         Ok(status) => Ok(ExitCode::from(status)),
         Err(error) => {
-            eprintln!(rt; "weigh: {error:#}")?;
+            // Whoever read the answers may have had enough of them, which is nothing to complain of.
+            if error.kind() != ErrorKind::BrokenPipe {
+                eprintln!(rt; "weigh: {error}")?;
+            }
             Ok(ExitCode::from(WRONG))
         }
     }

@@ -1,11 +1,10 @@
 use Rattle.std.proofs.Common.{◌≡◌, ◌∙◌, ap, sym, subst, refl, map, Bool, true, false, true≢false, inl, inr, List}
-use Rattle.std.specs.Prelude.{[]}
 use Rattle.clap.specs.Words.{App, HasKind, IsAmong, Kinds, Row, Text, app_of, fault_of, is_simple, is_simple_and_free, kind_of, matches_of}
 use Rattle.clap.specs.declared.error.Error.{Error}
 use Rattle.clap.specs.declared.error.kind.ErrorKind.{ErrorKind}
 use Rattle.clap.specs.declared.error.kind.ErrorKind.TheVariants.{DisplayHelp, DisplayVersion, OutOfMemory}
 use Rattle.clap.proofs.OnLiterals.{clap_on_literals}
-use Rattle.cmdline.specs.Asked.{AsksFor, IsRun, faults, given, the_app}
+use Rattle.cmdline.specs.Asked.{IsRun, faults, given, the_app}
 use Rattle.cmdline.proofs.reading.asked_by.Goals as goal
 
 simple : is_simple the_app ≡ true
