@@ -1,7 +1,7 @@
 # What the documents show is run and compared. Three ways of writing it are known, in README.md and docs/GUIDE.md:
 #
-#   - a block with lines `$ ./weigh ..`: each is run by a shell at the top of the repository, and prints the lines behind it, up
-#     to the next such line or the block's end;
+#   - a block with lines `$ ./weigh ..`: each is run by a shell at the top of the repository, with the built program for `./weigh`,
+#     and prints the lines behind it, up to the next such line or the block's end;
 #   - a block of commands, a line each, and in the paragraph behind it "prints `ANSWER`", or "prints" and a block of the answers.
 #     In the same paragraph, "A second `bag` prints `ANSWER`" goes on with that command (also third, fourth, fifth);
 #   - in a sentence, "`COMMAND` and then `COMMAND` prints `ANSWER`".
@@ -60,7 +60,8 @@ def shown(group, program, root):
         with open(os.path.join(root, page), encoding="utf-8") as file:
             text = file.read()
         for command, printed in shell_blocks(text):
-            done = subprocess.run(["bash", "-c", command], cwd=root, capture_output=True, text=True, timeout=60)
+            built = command.replace("./weigh", f"'{program}'")
+            done = subprocess.run(["bash", "-c", built], cwd=root, capture_output=True, text=True, timeout=60)
             group.same(page, command, done.stdout, printed)
         for script, printed in [*command_blocks(text), *sentences(text)]:
             done = subprocess.run([program], input=script, capture_output=True, text=True, timeout=60)

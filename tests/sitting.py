@@ -1,7 +1,9 @@
 # The program as somebody sits at it: answers line by line, a reader that goes away, arguments.
 import os
 import select
+import shutil
 import subprocess
+import tempfile
 import time
 
 SECONDS = 20  # for one answer
@@ -106,9 +108,26 @@ def command_line(group, program, root):
     group.same("nothing to read", "/dev/null", run(program, ["/dev/null"]), (0, b"", b""))
     piped = subprocess.run(["bash", "-c", f"'{program}' <(cat '{example}')"], capture_output=True, timeout=60)
     group.same("a pipe as a file", "<(cat ..)", (piped.returncode, piped.stdout, piped.stderr), (0, printed, b""))
+    handed_on(group, program, root, example, printed)
     told(group, program)
     wrong(group, program)
     refused(group, program)
+
+
+def handed_on(group, program, root, example, printed):
+    """`./weigh` hands its arguments on, wherever it is called from; tried in a folder where the program is newer than all sources."""
+    with tempfile.TemporaryDirectory(prefix="weigh-test-") as room:
+        os.makedirs(os.path.join(room, "crates"))
+        os.makedirs(os.path.join(room, "target"))
+        shutil.copy(os.path.join(root, "crates.txt"), room)
+        shutil.copy(os.path.join(root, "weigh"), room)
+        shutil.copy(program, os.path.join(room, "target", "weigh"))
+        script = os.path.join(room, "weigh")
+        group.same("./weigh FILE", example, run(script, [example], cwd="/"), (0, printed, b""))
+        group.same("./weigh with a file that is piped", example, run("bash", ["-c", f"'{script}' --strict <(cat '{example}')"]), (0, printed, b""))
+        group.same("./weigh of nothing", "/dev/null", run(script, ["/dev/null"]), (0, b"", b""))
+        group.same("./weigh --strict", "bag", run(script, ["--strict"], b"bag\nbag\n"), (1, b"refused 1 at 0\n", b""))
+        group.same("./weigh with a file that is not there", "nowhere", run(script, ["nowhere"])[:2], (2, b""))
 
 
 def told(group, program):
