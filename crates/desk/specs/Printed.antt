@@ -31,11 +31,11 @@ season_text bags weight given early =
 abbrev pub said : Reply → List ℕ
 said (Open bag) = open_text bag.pans bag.weight
 said NoChoice = codes "none"
-said (Refused f) = refused_text f.number f.place
+said (Refused f) = refused_text (refusal_number f.refusal) (refusal_place f.refusal f.line)
 said (Season p) = season_text p.bags p.weight p.given_away p.ended_early
 
 abbrev pub refused_at : (line : ℕ) → Refusal → Reply
-refused_at l f = Refused (record { number = refusal_number f; place = refusal_place f l })
+refused_at l f = Refused (record { refusal = f; line = l })
 
 abbrev pub bag_reply : (line : ℕ) → Result (Option Bag) Refusal → Reply
 bag_reply l (Ok (Some bag)) = Open bag

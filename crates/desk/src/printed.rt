@@ -1,4 +1,5 @@
 //! What the program answers, and how it is printed.
+ghost use Rattle.answers.specs.Refusals.{refusal_number, refusal_place};
 ghost use Rattle.std.specs.Fmt.{WritesOnOk};
 ghost use Rattle.std.specs.Prelude.{◌≡◌, Some};
 ghost use Rattle.desk.specs.Printed.{bag_reply, open_text, pans_below, refused_at, refused_text, said, season_reply, season_text};
@@ -9,11 +10,11 @@ use order::Bag;
 use std::fmt;
 use text::put_number;
 
-/// What was turned away, by its number in the list of refusals and its place, counted from 0.
+/// Why a line was turned away, and which line, counted from 0.
 #[derive(Clone, Copy, Debug, PartialEq, Eq)]
 pub struct Refused {
-    pub number: u64,
-    pub place: u64,
+    pub refusal: Refusal,
+    pub line: u64,
 }
 
 /// What is answered to a command.
@@ -30,10 +31,7 @@ impl Reply {
     pub fn refused(refusal: Refusal, line: u64) -> Reply
         ensures { result ≡ refused_at line refusal }
     {
-        Reply::Refused(Refused {
-            number: refusal.number(),
-            place: refusal.place(line),
-        })
+        Reply::Refused(Refused { refusal, line })
     }
 
     /// The answer where a bag was asked for at a line.
@@ -79,9 +77,10 @@ fn put_open<W: fmt::Write>(f: &mut fmt::Formatter<W>, bag: Bag) -> fmt::Result
 }
 
 fn put_refused<W: fmt::Write>(f: &mut fmt::Formatter<W>, refused: Refused) -> fmt::Result
-    ensures { WritesOnOk W.write_str_gives f.old result (refused_text refused.number refused.place) f.new }
+    ensures { WritesOnOk W.write_str_gives f.old result (refused_text (refusal_number refused.refusal) (refusal_place refused.refusal refused.line)) f.new }
 {
-    let Refused { number, place } = refused;
+    let number = refused.refusal.number();
+    let place = refused.refusal.place(refused.line);
     write!(f, "refused {number} at {place}")
 }
 

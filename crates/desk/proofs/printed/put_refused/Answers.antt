@@ -7,4 +7,4 @@ use Rattle.desk.proofs.printed.put_refused.Goals as goal
 pub returns : goal.returns
 returns g c = λ plain ok.
     put_as (c.write.ensures.writes plain ok)
-    (rw (decimal_is c.args.refused.number (omega arith), decimal_is c.args.refused.place (omega arith)))
+    (rw (decimal_is c.number-number.result (omega arith), decimal_is c.place-place.result (omega arith), c.number-number.ensures, c.place-place.ensures))
