@@ -6,8 +6,7 @@ use crate::case::Case;
 use crate::outcome::{Answer, Outcome};
 use crate::plain::all_tried;
 use crate::scores::Scores;
-use engines::Rooms;
-use engines::{Finder, Halves, Scan, Table};
+use engines::{Finder, Halves, Rooms, Scan, Table};
 use packing::{bag, bag_in, checked, find};
 
 // The table is asked for bags up to this weight: those of the trade, and some beyond.
@@ -31,7 +30,7 @@ fn by_entry<E: FnOnce(&mut [u32], &mut [u32]) -> Answer>(case: &Case, entry: E) 
 fn by_engine<F: Finder>(case: &Case, finder: &mut F) -> Option<Answer> {
     let weights = case.weights();
     let ages = case.ages();
-    checked(&case.rule, weights, ages).ok()?;
+    checked(&case.rule, 0, weights, ages).ok()?;
     Some(find(&case.rule, weights, ages, finder))
 }
 

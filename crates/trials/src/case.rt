@@ -3,9 +3,6 @@ ghost use Rattle.std.specs.Prelude.{◌≤◌};
 
 pub const MOST: usize = 12;
 
-// No number of a rule, no weight and no age may be above this.
-pub const LIMIT: u32 = 1_000_000;
-
 // Arrays with a number beside them, so that a case is copied and none asks for memory.
 #[derive(Clone, Copy)]
 pub struct Case {

@@ -1,7 +1,8 @@
 // Random cases: of ties, of the trade's weights and of heavy ones, with empty and old pans, and now and then a wrong number.
 ghost use Rattle.std.specs.Prelude.{◌≡◌, ◌≤◌};
 
-use crate::case::{Case, LIMIT, MOST};
+use crate::case::{Case, MOST};
+use choices::LIMIT;
 
 // Numbers that look random and are the same in every run.
 #[derive(Drop)]
