@@ -10,7 +10,7 @@ use Rattle.answers.specs.declared.refusal.Refusal.{Refusal}
 use Rattle.choices.specs.Ruled.{rule_in}
 use Rattle.choices.specs.Stand.{Stand, by_rule}
 use Rattle.choices.specs.declared.rule.Rule.{Rule}
-use Rattle.engines.specs.Lacks.{bytes_lacked}
+use Rattle.engines.specs.Bytes.{bytes_lacked}
 use Rattle.order.specs.Order.{Found}
 use Rattle.order.specs.declared.bag.Bag.{Bag}
 use Rattle.packing.specs.Refusals.{first_refusal}

@@ -1,7 +1,7 @@
 // The best bag of a ring by its two halves.
 ghost use Rattle.std.specs.Prelude.{◌≤◌, length};
 ghost use Rattle.choices.specs.Choice.{fits};
-ghost use Rattle.halves.specs.Next.{room_for};
+ghost use Rattle.halves.specs.Entries.{room_for};
 ghost use Rattle.order.specs.Order.{Found};
 
 use crate::ring_halves::RingHalves;

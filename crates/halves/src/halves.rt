@@ -3,7 +3,8 @@ ghost use Rattle.std.specs.Prelude.{◌≡◌, ℕ, ◌+◌, ◌-◌, ◌*◌, �
 ghost use Rattle.halves_growth.specs.Part.{Part};
 ghost use Rattle.halves.specs.Asked.{FirstSum};
 ghost use Rattle.halves.specs.Half.{Half};
-ghost use Rattle.halves.specs.Next.{Filled, Next, before, half_of, room_for};
+ghost use Rattle.halves.specs.Next.{Filled, Next};
+ghost use Rattle.halves.specs.Entries.{before, half_of, room_for};
 ghost use Rattle.halves_sieves.specs.Sieve.{part as part_of};
 ghost use Rattle.halves_sweeps.specs.Sweep.{Apart};
 

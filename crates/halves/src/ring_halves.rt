@@ -1,6 +1,6 @@
 // The halves of a ring, filled once and asked again and again.
 ghost use Rattle.halves.specs.Asked.{FilledFor, FirstFrom};
-ghost use Rattle.halves.specs.Next.{room_for};
+ghost use Rattle.halves.specs.Entries.{room_for};
 ghost use Rattle.std.specs.Prelude.{◌≡◌, ◌≤◌, length};
 
 use crate::filled::Halves;

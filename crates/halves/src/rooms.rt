@@ -1,7 +1,7 @@
 // How many pans each half has, and the room that the halves take.
 ghost use Rattle.choices.specs.declared.limits.TheConstants.{PANS};
 ghost use Rattle.std.specs.Prelude.{◌≡◌, ℕ, ◌/◌, ◌^◌, ◌≤◌};
-ghost use Rattle.halves.specs.Next.{half_of, room_for};
+ghost use Rattle.halves.specs.Entries.{half_of, room_for};
 
 /// Room, in entries of 8 bytes, for the halves of 24 pans, which is the most that a ring has.
 pub const ROOM: usize = 4096;
