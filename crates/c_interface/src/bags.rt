@@ -1,6 +1,7 @@
 //! The best bag by each engine, as one number: its pans times 2^32 and its weight, 0 for none, or a refusal's number.
 //!
-//! No bag has such a number below 2^32, since a bag opens a pan. C has no enums that hold values, so all of it is one number.
+//! No bag has such a number below 2^32, since a bag opens a pan. C has no enums that hold values, so all of it is one
+//! number.
 ghost use Rattle.std.specs.Prelude.{◌≡◌, length};
 ghost use Rattle.answers.specs.Refusals.{or_else};
 ghost use Rattle.c_interface.specs.InNumbers.{Told as Says, bag_number, table_refusal};

@@ -8,8 +8,9 @@ use crate::told::Told;
 use engines::Rooms;
 use seasons::season;
 
-/// Plays so many bags in lent rooms, with the list's handfuls in between, and leaves the pans as the last bag and the handfuls
-/// behind it do. Where the rooms are too small for the fast engines the scan runs, and nothing is refused for it.
+/// Plays so many bags in lent rooms, with the list's handfuls in between, and leaves the pans as the last bag and the
+/// handfuls behind it do. Where the rooms are too small for the fast engines the scan runs, and nothing is refused for
+/// it.
 #[unsafe(no_mangle)]
 pub extern "C" fn weigh_season(
     rule: &[u32],

@@ -5,8 +5,8 @@ ghost use Rattle.std.specs.Prelude.{IfOk};
 use halves::ROOM;
 use std::alloc::{AllocError, Global};
 
-/// What a ring was given: what lies in each pan (in the scale's unit, 0 is empty), for how many bags each has waited, and the
-/// handfuls of a season.
+/// What a ring was given: what lies in each pan (in the scale's unit, 0 is empty), for how many bags each has waited,
+/// and the handfuls of a season.
 #[derive(Drop)]
 pub struct Loaded {
     pub pans: Vec<u32>,
@@ -14,8 +14,8 @@ pub struct Loaded {
     pub handfuls: Vec<u32>,
 }
 
-/// What was given, kept as it stands; what is wrong with it is said when a bag or a season is asked for. And the rooms: entries
-/// for the two halves, and bytes for the table by weight.
+/// What was given, kept as it stands; what is wrong with it is said when a bag or a season is asked for. And the rooms:
+/// entries for the two halves, and bytes for the table by weight.
 #[derive(Drop)]
 pub struct Desk {
     pub rule: Vec<u32>,

@@ -10,8 +10,8 @@ use order::Bag;
 
 /// The best choice by the ring's rule, or `None` where no choice fits.
 ///
-/// Found in a lent room of at least [`room_for`](crate::room_for) entries for the ring's pans, whose contents are unspecified
-/// afterwards.
+/// Found in a lent room of at least [`room_for`](crate::room_for) entries for the ring's pans, whose contents are
+/// unspecified afterwards.
 pub fn best(ring: Ring, room: &mut [u64]) -> Option<Bag>
     requires { room_for (length ring.weights.now) ≤ length room.old }
     ensures { Found (fits ring.entry.rule ring.entry.weights.now ring.entry.ages.now) ring.entry.weights.now result }
