@@ -33,7 +33,7 @@ pub fn narrowed_answers()
     ensures { NarrowedFits }
 {}
 
-/// What fits a rule fits every looser one: with a lower target, more above, more pans or a higher age.
+/// What fits a rule fits every looser one: one with no higher target, no lower target + above, no fewer pans and no lower age.
 ///
 /// Does nothing when it is called: its contract is the law.
 pub fn looser_still_fits()
