@@ -11,19 +11,6 @@ const PROVED_WITH: &str = "(proved with rattle-kit-13f logic dac8208d650f15bf)";
 const ABOUT: &str =
     "Opens, for every bag, the pans that make the best one: a combination weigher's decisions, proved correct.";
 
-const COMMANDS: &str = "Commands, one a line:
-  rule T A P O   a bag weighs at least T and at most A more, of at most P pans; who has waited O bags is in it
-  pans W..       what lies in each pan, from pan 0 on; 0 is an empty pan
-  ages A..       for how many bags each pan has waited
-  bag            makes the best bag: `open 2 3 6 7: 100`, or `none`
-  fall P W       W falls into pan P, which is empty
-  handfuls W..   the list that a season takes handfuls from
-  bags N         a season of N bags
-  # ..           a remark
-
-What is turned away prints `refused N at P` and changes nothing. Without --strict the program goes on to the end of
-its input and ends with status 0. The guide is docs/GUIDE.md.";
-
 /// The command line: an optional file, `--strict`, `--explain`, `--help` and `--version`.
 pub fn weigh_command<'a>(heap: Global) -> Result<Command<'a>, AllocError>
     ensures { IfOk result (λ command. app_of command ≡ the_app) }
@@ -40,7 +27,6 @@ pub fn weigh_command<'a>(heap: Global) -> Result<Command<'a>, AllocError>
     Command::new(heap, "weigh")
         .version(PROVED_WITH)
         .about(ABOUT)
-        .after_help(COMMANDS)
         .arg(file)?
         .arg(strict)?
         .arg(explain)

@@ -5,9 +5,18 @@ ghost use Rattle.std.specs.Prelude.{◌≡◌, IfOk, map, option_map};
 
 use crate::command::weigh_command;
 use clap::ArgMatches;
+use clap::Error;
 use clap::error::ErrorKind;
 use std::alloc::{AllocError, Global};
 use std::convert::AsStr;
+use text::ROWS;
+
+// What the help says behind the commands.
+const REMARKS: &str = "  # ..: a remark
+
+What is turned away prints `refused N at P` and changes nothing. Without --strict the program goes on to the end of
+its input and ends with status 0. The guide is docs/GUIDE.md.
+";
 
 /// How the program runs. `file` is the file of commands, and `None` is standard input.
 #[derive(Clone, Copy, Debug, PartialEq, Eq)]
@@ -49,6 +58,19 @@ fn run_of<'a>(matches: &ArgMatches<'a>) -> Run<'a>
     }
 }
 
+// Each command, a line each, behind the help on the command line.
+fn help(heap: Global, error: &Error) -> Result<String, AllocError> {
+    let mut text = error.to_string(heap)?;
+    text.push_str("\nCommands, one a line:\n")?;
+    for (_, _, _, usage) in ROWS.as_slice() {
+        text.push_str("  ")?;
+        text.push_str(usage)?;
+        text.push_str("\n")?;
+    }
+    text.push_str(REMARKS)?;
+    Ok(text)
+}
+
 /// What the words of a command line ask for, of which the first is the program's own name. Fails only for want of memory.
 pub fn asked_by<'a, S: AsStr>(heap: Global, words: &'a [S]) -> Result<Asked<'a>, AllocError>
     ensures { IfOk result (AsksFor (map S.text words.entry.now)) }
@@ -59,9 +81,8 @@ pub fn asked_by<'a, S: AsStr>(heap: Global, words: &'a [S]) -> Result<Asked<'a>,
     };
     match error.kind() {
         ErrorKind::OutOfMemory => Err(AllocError),
-        ErrorKind::DisplayHelp | ErrorKind::DisplayVersion => {
-            Ok(Asked::Tell(error.to_string(heap)?))
-        }
+        ErrorKind::DisplayHelp => Ok(Asked::Tell(help(heap, &error)?)),
+        ErrorKind::DisplayVersion => Ok(Asked::Tell(error.to_string(heap)?)),
         _ => Ok(Asked::Wrong(error.to_string(heap)?)),
     }
 }

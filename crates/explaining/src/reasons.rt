@@ -1,24 +1,19 @@
 // The reasons, in words.
 use crate::flaws::Flaw;
 use std::fmt;
+use text::Word;
 
 /// Why a line was turned away. Places of a line count its bytes from 0; `Display` says what is wrong and what to write.
-#[derive(Clone, Copy, Debug, PartialEq, Eq)]
-pub enum Reason<'a> {
+#[derive(Clone, Copy)]
+pub enum Reason {
     /// Something that stands in no command, and where.
     Flawed(Flaw, usize),
     /// It begins with no known word; the nearest that is known, if one is near.
-    Unknown(Option<&'a str>),
+    Unknown(Option<Word>),
     /// Something among the numbers that is no digit, and where.
     Stray(usize),
-    /// `bag` with numbers.
-    Bag,
-    /// `fall` without two numbers, or into a pan that isn't there or isn't empty.
-    Fall,
-    /// `bags` without one number, or more than 1,000,000.
-    Bags,
-    /// Another command that can't be obeyed.
-    Unread,
+    /// A command of this word that can't be obeyed.
+    Usage(Word),
     /// Which number of the rule is wrong.
     Rule(u64),
     /// How many pans or ages there are.
@@ -27,6 +22,8 @@ pub enum Reason<'a> {
     Number(u64),
     /// How many entries the lent room needs.
     Room(u64),
+    /// A refusal from 6 on, and where it applies.
+    Further { number: u64, place: u64 },
 }
 
 impl fmt::Display for Flaw {
@@ -43,7 +40,7 @@ impl fmt::Display for Flaw {
     }
 }
 
-fn put_unknown<W: fmt::Write>(f: &mut fmt::Formatter<W>, near: Option<&str>) -> fmt::Result {
+fn put_unknown<W: fmt::Write>(f: &mut fmt::Formatter<W>, near: Option<Word>) -> fmt::Result {
     f.write_str("no command begins with this word")?;
     match near {
         Some(word) => write!(f, ": did you mean `{word}`?"),
@@ -51,7 +48,7 @@ fn put_unknown<W: fmt::Write>(f: &mut fmt::Formatter<W>, near: Option<&str>) -> 
     }
 }
 
-impl fmt::Display for Reason<'_> {
+impl fmt::Display for Reason {
     fn fmt<W: fmt::Write>(&self, f: &mut fmt::Formatter<W>) -> fmt::Result {
         match *self {
             Reason::Flawed(flaw, place) => write!(f, "at byte {place}, {flaw}"),
@@ -60,10 +57,7 @@ impl fmt::Display for Reason<'_> {
                 f,
                 "at byte {place}, no digit: behind the word stand only numbers"
             ),
-            Reason::Bag => f.write_str("`bag` stands alone; for several bags write `bags N`"),
-            Reason::Fall => f.write_str("write `fall P W`: the pan has to be there and empty"),
-            Reason::Bags => f.write_str("write `bags N` with at most 1000000 bags at a time"),
-            Reason::Unread => f.write_str("write the command as the guide has it"),
+            Reason::Usage(word) => write!(f, "the command is {}", word.usage()),
             Reason::Rule(place) => write!(
                 f,
                 "number {place} of the rule is wrong: `rule T A P O` are four numbers of at most 1000000, T at least 1"
@@ -77,6 +71,10 @@ impl fmt::Display for Reason<'_> {
                 "number {place} of the pans, then ages, then handfuls is above 1000000: give a smaller one"
             ),
             Reason::Room(entries) => write!(f, "the lent room has to have {entries} entries"),
+            Reason::Further { number, place } => write!(
+                f,
+                "refusal {number} at {place}: the guide says what it means for this kind of bag"
+            ),
         }
     }
 }

@@ -15,7 +15,7 @@ returns c =
     let strict_is : rule_of c.help-strict.result ≡ flag (codes "strict") = ap rule_of c.help-strict.ensures ∙ ap rule_of c.action.ensures ∙ ap {A = Arg} (λ a. record (rule_of a) { action = Some SetTrue }) c.long.ensures ∙ ap {A = Rule} (λ r. record r { long = Some (codes "strict"); action = Some SetTrue }) c.new-2.ensures.rule in
     let explain_is : rule_of c.help-explain.result ≡ flag (codes "explain") = ap rule_of c.help-explain.ensures ∙ ap rule_of c.action-2.ensures ∙ ap {A = Arg} (λ a. record (rule_of a) { action = Some SetTrue }) c.long-2.ensures ∙ ap {A = Rule} (λ r. record r { long = Some (codes "explain"); action = Some SetTrue }) c.new-3.ensures.rule in
     let version_is : app_of c.version.result ≡ with_version (new_app (codes "weigh")) = ap app_of_fields c.version.ensures ∙ ap with_version c.new-4.ensures.app in
-    let told_is : app_of c.after_help.result ≡ with_version (new_app (codes "weigh")) = ap app_of_fields c.after_help.ensures ∙ ap app_of_fields c.about.ensures ∙ version_is in
+    let told_is : app_of c.about.result ≡ with_version (new_app (codes "weigh")) = ap app_of_fields c.about.ensures ∙ version_is in
     let file_apart : c.help-file.result.global ≡ false = ap {A = Arg} (λ a. a.global) c.help-file.ensures ∙ c.new.ensures.optional.1 in
     let strict_apart : c.help-strict.result.global ≡ false = ap {A = Arg} (λ a. a.global) c.help-strict.ensures ∙ ap {A = Arg} (λ a. a.global) c.action.ensures ∙ ap {A = Arg} (λ a. a.global) c.long.ensures ∙ c.new-2.ensures.optional.1 in
     let explain_apart : c.help-explain.result.global ≡ false = ap {A = Arg} (λ a. a.global) c.help-explain.ensures ∙ ap {A = Arg} (λ a. a.global) c.action-2.ensures ∙ ap {A = Arg} (λ a. a.global) c.long-2.ensures ∙ c.new-3.ensures.optional.1 in

@@ -4,4 +4,4 @@ use Rattle.explaining.proofs.Nearness.{Nearest}
 use Rattle.explaining.proofs.words.nearest.Given as goal
 
 abbrev pub invariant-loop-word : goal.invariant-loop-word
-invariant-loop-word l = Nearest l.name l.words (take l.word-index l.words) l.found l.least
+invariant-loop-word l = Nearest l.name (take l.word-index l.rows) l.found l.least
