@@ -24,10 +24,12 @@ fn served<R: Read>(rt: &HostRuntime, run: Run<'_>, mut input: BufReader<R>) -> i
         explain: run.explain,
     };
     let mut reasons = rt.stderr();
-    Ok(match serve(heap, &mut desk, manner, &mut input, &mut out, &mut reasons)? {
-        Ended::AtEnd => 0,
-        Ended::AtRefusal => REFUSED,
-    })
+    Ok(
+        match serve(heap, &mut desk, manner, &mut input, &mut out, &mut reasons)? {
+            Ended::AtEnd => 0,
+            Ended::AtRefusal => REFUSED,
+        },
+    )
 }
 
 // Does what the command line asks for, and answers the status to end with.
