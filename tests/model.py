@@ -11,12 +11,13 @@ from itertools import combinations
 LARGEST = 1000000  # for the numbers of a rule, weights, ages and bags
 LARGEST_KEPT = 4294967295
 MOST_PANS = 24
+MOST_KINDS = 4
 
 NUMBER = re.compile(rb"0|[1-9][0-9]*")
 
-# How many numbers stand behind each word; None is any count, also no number.
-COMMANDS = {b"rule": None, b"pans": None, b"ages": None, b"handfuls": None,
-            b"bag": 0, b"fall": 2, b"bags": 1}
+# Which counts of numbers may stand behind each word; None is any count, also no number.
+COMMANDS = {b"rule": None, b"pans": None, b"ages": None, b"handfuls": None, b"kinds": None,
+            b"bag": [0], b"fall": [2], b"bags": [1], b"mix": [0, 1]}
 
 
 class Refused(Exception):
@@ -26,7 +27,7 @@ class Refused(Exception):
 class Ring:
     def __init__(self):
         # Nothing given is the same as the word alone: no numbers.
-        self.rule, self.pans, self.ages, self.handfuls = [], [], [], []
+        self.rule, self.pans, self.ages, self.handfuls, self.kinds = [], [], [], [], []
 
 
 def number(digits):
@@ -38,7 +39,7 @@ def command(line, place):
     word, *rest = line.split(b" ")
     if word not in COMMANDS or not all(NUMBER.fullmatch(r) for r in rest):
         raise Refused(4, place)
-    if COMMANDS[word] not in (None, len(rest)):
+    if COMMANDS[word] is not None and len(rest) not in COMMANDS[word]:
         raise Refused(4, place)
     return word.decode("ascii"), [number(digits) for digits in rest]
 
@@ -49,17 +50,17 @@ def refuse_too_large(reason, numbers, first_place):
             raise Refused(reason, place)
 
 
-def check_rule(rule):
-    if len(rule) != 4:
-        # The first missing is where the list ends, the first too many is at 4.
-        raise Refused(1, min(len(rule), 4))
+def check_rule(rule, wanted):
+    if len(rule) != wanted:
+        # The first missing is where the list ends, the first too many is where it should end.
+        raise Refused(1, min(len(rule), wanted))
     refuse_too_large(1, rule, 0)
     if rule[0] == 0:
         raise Refused(1, 0)
 
 
-def check_bag(ring):
-    check_rule(ring.rule)
+def check_bag(ring, wanted=4):
+    check_rule(ring.rule, wanted)
     count = len(ring.pans)
     if not 1 <= count <= MOST_PANS:
         raise Refused(2, count)
@@ -69,15 +70,41 @@ def check_bag(ring):
     refuse_too_large(3, ring.ages, count)
 
 
-def check_season(ring, count, place):
-    check_bag(ring)
+def check_season(ring, count, place, wanted=4):
+    check_bag(ring, wanted)
     refuse_too_large(3, ring.handfuls, 2 * len(ring.pans))
     if count > LARGEST:
         raise Refused(4, place)
 
 
+def wanted_of_a_mix(rule):
+    """How many numbers the rule of a mix has: six at least, and two more for each further kind."""
+    if len(rule) < 6:
+        return 6
+    return len(rule) if len(rule) % 2 == 0 else len(rule) + 1
+
+
+def check_kinds(ring):
+    kinds = (len(ring.rule) - 4) // 2
+    if kinds > MOST_KINDS:
+        raise Refused(6, kinds)
+    if len(ring.kinds) != len(ring.pans):
+        raise Refused(6, len(ring.kinds))
+    for pan, kind in enumerate(ring.kinds):
+        if kind >= kinds:
+            raise Refused(6, pan)
+
+
+def keeps_the_kinds(ring, choice):
+    for kind in range((len(ring.rule) - 4) // 2):
+        least, most = ring.rule[4 + 2 * kind : 6 + 2 * kind]
+        if not least <= sum(ring.pans[pan] for pan in choice if ring.kinds[pan] == kind) <= most:
+            return False
+    return True
+
+
 def bags_by_the_rule(ring):
-    target, above, most, old_age = ring.rule
+    target, above, most, old_age = ring.rule[:4]
     filled = [pan for pan, weight in enumerate(ring.pans) if weight > 0]
     # An old pan that is empty is in no choice, so then no bag is found.
     old = {pan for pan, age in enumerate(ring.ages) if age >= old_age}
@@ -88,9 +115,13 @@ def bags_by_the_rule(ring):
                 yield weight, size, choice
 
 
-def make_bag(ring):
+def mixed_bags(ring):
+    return (bag for bag in bags_by_the_rule(ring) if keeps_the_kinds(ring, bag[2]))
+
+
+def make_bag(ring, allowed=bags_by_the_rule):
     # Of equally many pans the smaller tuple opens the first pan that differs.
-    best = min(bags_by_the_rule(ring), default=None)
+    best = min(allowed(ring), default=None)
     if best is None:
         return None
     weight, _, choice = best
@@ -103,7 +134,16 @@ def make_bag(ring):
 
 def bag(ring):
     check_bag(ring)
-    made = make_bag(ring)
+    return opened(make_bag(ring))
+
+
+def mix(ring):
+    check_bag(ring, wanted_of_a_mix(ring.rule))
+    check_kinds(ring)
+    return opened(make_bag(ring, mixed_bags))
+
+
+def opened(made):
     if made is None:
         return "none"
     weight, choice = made
@@ -129,9 +169,19 @@ def handfuls_fall(ring, used):
 
 def bags(ring, count, place):
     check_season(ring, count, place)
+    return played(ring, count, bags_by_the_rule)
+
+
+def mixes(ring, count, place):
+    check_season(ring, count, place, wanted_of_a_mix(ring.rule))
+    check_kinds(ring)
+    return played(ring, count, mixed_bags)
+
+
+def played(ring, count, allowed):
     weights, used, ending = [], 0, ""
     while len(weights) < count:
-        made = make_bag(ring)
+        made = make_bag(ring, allowed)
         if made is None:
             ending = ", then none"
             break
@@ -151,9 +201,11 @@ def answer(ring, line, place):
             return bag(ring)
         if word == "bags":
             return bags(ring, *numbers, place)
+        if word == "mix":
+            return mixes(ring, *numbers, place) if numbers else mix(ring)
         if word == "fall":
             return fall(ring, *numbers, place)
-        setattr(ring, word, numbers)  # rule, pans, ages, handfuls: only kept
+        setattr(ring, word, numbers)  # rule, pans, ages, handfuls, kinds: only kept
     except Refused as refused:
         return "refused %d at %d" % refused.args
 

@@ -19,6 +19,7 @@ class Maker:
         # Small weights for ties, those of the trade, and some that are too heavy for a table by weight.
         self.unit, self.most = r.choice([(1, 3), (1, 12), (5, 12), (1, 60), (1000, 1000), (1, LIMIT)])
         self.old = r.randint(1, 6)
+        self.mixed = r.randint(1, 4)
 
     def weight(self):
         if self.r.random() < 0.06:
@@ -49,6 +50,29 @@ class Maker:
         pans = self.rarely(self.r.choice([2, 3, 4, 4, 5, 8, 24, LIMIT]), self.r.choice([0, 1]), 0.1)
         age = self.rarely(self.old + self.r.choice([0, 1, 1, 2, 3, 5, LIMIT // 2]), 0)
         return line("rule", self.spoilt([self.rarely(target, 0), above, pans, age]))
+
+    def window(self):
+        """The least and the most of a kind: loose, one that binds from either side, and now and then one that can't be kept."""
+        heaviest = self.unit * self.most
+        least = min(LIMIT, self.r.choice([0, 0, 1, self.r.randint(0, heaviest), self.r.randint(0, 2 * heaviest)]))
+        most = min(LIMIT, self.r.choice([LIMIT, least, least + heaviest // 2, least + 2 * heaviest, 3 * heaviest]))
+        return self.rarely([least, most], [most + 1, most], 0.05)
+
+    def mixed_rule(self):
+        plain = self.rule().split(b" ")[1:5]
+        windows = [number for _ in range(self.rarely(self.mixed, self.r.choice([0, 5, 6]))) for number in self.window()]
+        return line("rule", self.spoilt([number.decode() for number in plain] + windows))
+
+    def kinds(self):
+        known = [self.rarely(self.r.randrange(self.mixed), 9, 0.01) for _ in range(self.rarely(self.count, self.r.randint(0, 9)))]
+        return line("kinds", self.spoilt(known))
+
+    def mix(self):
+        return line("mix", self.r.choice([[], [], [self.rarely(self.r.randint(0, 12), self.too_large())]]))
+
+    def mixture(self):
+        """All that a mixed bag takes, anew, and some of these."""
+        return b"\n".join([self.mixed_rule(), self.pans(), self.ages(), self.kinds(), self.handfuls(), self.mix(), self.mix()])
 
     def pans(self):
         return line("pans", self.spoilt(self.weight() for _ in range(self.rarely(self.count, self.r.choice([0, 25])))))
@@ -91,8 +115,8 @@ class Maker:
 
     def any(self):
         kinds = [self.rule, self.pans, self.ages, self.handfuls, self.bag, self.fall, self.bags]
-        kinds += [self.falls, self.ring, self.remark, self.garbled]
-        return self.r.choices(kinds, [2, 2, 2, 1, 12, 3, 3, 3, 3, 1, 2])[0]()
+        kinds += [self.falls, self.ring, self.remark, self.garbled, self.mixture, self.mixed_rule, self.kinds, self.mix]
+        return self.r.choices(kinds, [2, 2, 2, 1, 12, 3, 3, 3, 3, 1, 2, 3, 1, 1, 4])[0]()
 
     def script(self):
         start = [self.ring()] if self.r.random() < 0.9 else []
@@ -115,7 +139,7 @@ SETUPS = [b"", SETUP, b"pans 1 0\n", RING, RING + b"bag\nbag\n", RING + b"bags 3
 # old, and what lies in the pans by a bag of each.
 PROBE = b"bag\nbags 2\n" + b"".join(b"rule 1 1000000 24 %d\nbag\nfall 1 9\n" % age for age in (5, 4, 3, 2, 1)) + b"rule 1 1000000 1 1000000\n" + b"bag\n" * 4
 
-COMMANDS = [b"rule 50 5 4 9", b"pans 23 0 18 27", b"ages 0 1 2 3", b"handfuls 30 20", b"bag", b"fall 1 25", b"bags 3"]
+COMMANDS = [b"rule 50 5 4 9", b"pans 23 0 18 27", b"ages 0 1 2 3", b"handfuls 30 20", b"bag", b"fall 1 25", b"bags 3", b"kinds 0 1 0 1", b"mix", b"mix 2"]
 
 
 def one_byte_changed():
