@@ -4,9 +4,8 @@ ghost use Rattle.cmdline.specs.Asked.{AsksFor, IsRun, no_dash};
 ghost use Rattle.std.specs.Prelude.{◌≡◌, IfOk, map, option_map};
 
 use crate::command::weigh_command;
-use clap::ArgMatches;
-use clap::Error;
 use clap::error::ErrorKind;
+use clap::{ArgMatches, Error};
 use std::alloc::{AllocError, Global};
 use std::convert::AsStr;
 use text::ROWS;
