@@ -160,9 +160,9 @@ REASONS = [
     (b"Pans 1", b"did you mean `pans`"),
     (b"weigh 1", b"--help"),
     (b"pans 1x", b"no digit"),
-    (b"bag 3", b"`bags N`"),
+    (b"bag 3", b"bag: makes the best bag"),
     (b"fall 9 1", b"there and empty"),
-    (b"bags", b"`bags N`"),
+    (b"bags", b"bags N: a season"),
     (b"bag", b"rule T A P O"),
 ]
 

@@ -15,7 +15,11 @@ const REFUSED: u8 = 1;
 const WRONG: u8 = 2;
 
 // Runs the commands of a reader at a desk with nothing on it, and answers the status to end with.
-fn served<R: Read>(rt: &HostRuntime, run: Run<'_>, mut input: BufReader<R>) -> io::Result<u8> {
+fn served<R: Read + Drop>(
+    rt: &HostRuntime,
+    run: Run<'_>,
+    mut input: BufReader<R>,
+) -> io::Result<u8> {
     let heap = rt.alloc();
     let mut desk = empty_desk(heap)?;
     let mut out = BufWriter::new(heap, rt.stdout())?;

@@ -48,10 +48,16 @@ returns-in-DisplayHelp g c =
     let app_is : app_of c.in_ok-weigh_command.field-0 ≡ the_app = c.in_ok-weigh_command.ensures in
     let kinds = c.in-Err.ensures.kinds (ap is_simple_and_free app_is ∙ free) in
     let of_words : HasKind (fault_of the_app words) c.in-Err.error = subst (λ (a : App). HasKind (fault_of a words) c.in-Err.error) app_is kinds in
-    elim c.in-DisplayHelp.is [
-      | inl help ↦ inl (among c.in-Err.error DisplayHelp _ of_words (sym help ∙ c.kind.ensures) help_is_no_memory)
-      | inr version ↦ inr (among c.in-Err.error DisplayVersion _ of_words (sym version ∙ c.kind.ensures) version_is_no_memory)
-    ]
+    inl (among c.in-Err.error DisplayHelp _ of_words (sym c.in-DisplayHelp.is ∙ c.kind.ensures) help_is_no_memory)
+
+pub returns-in-DisplayVersion : goal.returns-in-DisplayVersion
+unfolding faults
+returns-in-DisplayVersion g c =
+    let words : List Text = map g.S.AsStr.text c.args.words.now in
+    let app_is : app_of c.in_ok-weigh_command.field-0 ≡ the_app = c.in_ok-weigh_command.ensures in
+    let kinds = c.in-Err.ensures.kinds (ap is_simple_and_free app_is ∙ free) in
+    let of_words : HasKind (fault_of the_app words) c.in-Err.error = subst (λ (a : App). HasKind (fault_of a words) c.in-Err.error) app_is kinds in
+    inr (among c.in-Err.error DisplayVersion _ of_words (sym c.in-DisplayVersion.is ∙ c.kind.ensures) version_is_no_memory)
 
 pub returns : goal.returns
 unfolding faults
