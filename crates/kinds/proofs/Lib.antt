@@ -1,0 +1,1 @@
+-- The lemmas that several proofs share.
