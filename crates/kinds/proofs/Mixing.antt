@@ -1,5 +1,7 @@
 -- What a choice that mixes has, as facts; and what wider windows and looser rules allow.
-use Rattle.std.proofs.Common.{◌≡◌, ℕ, zero, suc, ◌+◌, ◌<◌, Bool, true, false, List, [], ◌∷◌, length, get_or, refl, arith}
+use Rattle.std.proofs.Common.{◌≡◌, ℕ, zero, suc, ◌+◌, ◌<◌, Bool, true, false, ◌&&◌, List, [], ◌∷◌, ◌++◌, length, get_or, sym, refl, ap, ◌∙◌, arith}
+use Rattle.std.proofs.Math.Bool.{and_assoc}
+use Rattle.std.specs.Prelude.{nat_le}
 use Rattle.std.proofs.lemmas.Bool.{and_parts, and_from, leb-true, le-leb}
 use Rattle.choices.specs.Choice.{Choice, fits}
 use Rattle.choices.specs.Stand.{Stand, Looser}
@@ -32,6 +34,23 @@ in_windows_from k (v ∷ vs) ks ws cs h =
   where
     moved : (j : ℕ) → k + suc j ≡ k + 1 + j
     moved j = omega arith
+
+and_true : (b : Bool) → (b && true) ≡ b
+and_true true = refl
+and_true false = refl
+
+-- one window more is one test more
+pub in_windows-more :
+    (k : ℕ) (vs : List Window) (v : Window) (ks ws : List ℕ) (cs : Choice) →
+    in_windows k (vs ++ v ∷ []) ks ws cs
+    ≡ (in_windows k vs ks ws cs && (nat_le v.least (weight_of_kind (k + length vs) ks ws cs) && nat_le (weight_of_kind (k + length vs) ks ws cs) v.most))
+in_windows-more k [] v ks ws cs =
+    let e : k + 0 ≡ k = omega arith in rw e (and_true (nat_le v.least (weight_of_kind k ks ws cs) && nat_le (weight_of_kind k ks ws cs) v.most))
+in_windows-more k (u ∷ us) v ks ws cs =
+    let e : k + suc (length us) ≡ k + 1 + length us = omega arith in
+    rw e
+    (ap (λ b. (nat_le u.least (weight_of_kind k ks ws cs) && nat_le (weight_of_kind k ks ws cs) u.most) && b) (in_windows-more (k + 1) us v ks ws cs)
+    ∙ sym (and_assoc (nat_le u.least (weight_of_kind k ks ws cs) && nat_le (weight_of_kind k ks ws cs) u.most) _ _))
 
 -- ---- the whole test
 pub record Mixing (r : Rule) (vs : List Window) (ks ws as' : List ℕ) (cs : Choice) : Type 0 where

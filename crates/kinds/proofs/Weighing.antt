@@ -19,6 +19,15 @@ length-of_kind k [] (w ∷ ws) e = absurd (omega arith)
 length-of_kind k (q ∷ ks) [] e = absurd (omega arith)
 length-of_kind k (q ∷ ks) (w ∷ ws) e = ap suc (length-of_kind k ks ws (omega arith))
 
+-- a pan has of a kind what lies in it, or nothing
+pub of_kind_at :
+    (k : ℕ) (ks ws : List ℕ) (i d : ℕ) → length ks ≡ length ws → i < length ws →
+    get_or (of_kind k ks ws) i d ≡ cond (eqb (get_or ks i 0) k) (get_or ws i 0) 0
+of_kind_at k [] ws i d e l = absurd (omega arith)
+of_kind_at k (q ∷ ks) [] i d e l = absurd (omega arith)
+of_kind_at k (q ∷ ks) (w ∷ ws) zero d e l = refl
+of_kind_at k (q ∷ ks) (w ∷ ws) (suc i) d e l = of_kind_at k ks ws i d (omega arith) (omega arith)
+
 part_le : (b : Bool) (w : ℕ) → cond b w 0 ≤ w
 part_le true w = omega arith
 part_le false w = omega arith
