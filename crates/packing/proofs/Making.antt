@@ -66,7 +66,7 @@ packed_alike r s None None t u m k = (refl, m.1 ∙ sym k.1)
 packed_alike r s (Some b) None t u m k = absurd (both_ways _ (k.0 m.choice) m.best.allowed)
 packed_alike r s None (Some d) t u m k = absurd (both_ways _ (m.0 k.choice) k.best.allowed)
 
-answered_alike :
+pub answered_alike :
     (o : Option Refusal) (r : Rule) (s : Stand) (d e : Answer) (t u : Stand) → Answered o (by_rule r) s d t → Answered o (by_rule r) s e u →
     (d ≡ e) × (t ≡ u)
 answered_alike None r s (Ok d) (Ok e) t u m k = let h = packed_alike r s d e t u m k in (ap Ok h.0, h.1)
@@ -76,7 +76,7 @@ answered_alike (Some f) r s (Err g) (Err h) t u m k = (ap Err (m.0 ∙ sym k.0),
 answered_alike (Some f) r s (Ok d) e t u m k = absurd m
 answered_alike (Some f) r s (Err g) (Ok e) t u m k = absurd k
 
-or_none : {X : Type 0} (o : Option X) → or_else o None ≡ o
+pub or_none : {X : Type 0} (o : Option X) → or_else o None ≡ o
 or_none None = refl
 or_none (Some x) = refl
 

@@ -36,7 +36,7 @@ pub fn first_above(numbers: &[u32], from: u64) -> Option<u64>
 
 // A rule in four numbers and `more` behind them: there are so many, none is too large, and the target is not 0.
 fn rule_of(numbers: &[u32], more: usize) -> Result<Rule, Refusal>
-    requires { more ≤ LIMIT }
+    requires { more < 2 ^ 62 }
     ensures { result ≡ passed (rule_refusal (4 + more) numbers.now) (rule_in numbers.now) }
 {
     let long = 4 + more;
@@ -83,7 +83,7 @@ fn check_numbers(weights: &[u32], ages: &[u32]) -> Result<(), Refusal>
 ///
 /// A rule in numbers is target, above, pans, age, and `more` numbers behind them, which a kind of bag has for itself.
 pub fn checked(rule: &[u32], more: usize, weights: &[u32], ages: &[u32]) -> Result<Rule, Refusal>
-    requires { more ≤ LIMIT }
+    requires { more < 2 ^ 62 }
     ensures value { result ≡ passed (first_refusal (4 + more) rule.now (stand weights.now ages.now)) (rule_in rule.now) }
     ensures taken { OnOk result (Accepted (4 + more) rule.now (stand weights.now ages.now)) }
 {

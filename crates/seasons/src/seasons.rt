@@ -1,5 +1,5 @@
 //! Seasons: bag after bag by a rule, with handfuls of a list falling into the empty pans after each.
-ghost use Rattle.std.specs.Prelude.{◌≡◌, ℕ, ◌+◌, ◌*◌, ◌≤◌, OnOk, slice_index};
+ghost use Rattle.std.specs.Prelude.{◌≡◌, ℕ, ◌+◌, ◌*◌, ◌^◌, ◌<◌, ◌≤◌, OnOk, slice_index};
 ghost use Rattle.answers.specs.Refusals.{passed};
 ghost use Rattle.choices.specs.Ruled.{rule_in};
 ghost use Rattle.choices.specs.Stand.{stand};
@@ -41,7 +41,7 @@ pub fn season_checked(
     handfuls: &[u32],
     bags: u32,
 ) -> Result<Rule, Refusal>
-    requires { more ≤ LIMIT }
+    requires { more < 2 ^ 62 }
     ensures value { result ≡ passed (season_refusal (4 + more) rule.now (stand weights.now ages.now) handfuls.now bags) (rule_in rule.now) }
     ensures taken { OnOk result (Accepted (4 + more) rule.now (stand weights.now ages.now)) }
     ensures small { OnOk result ((i : ℕ) → slice_index handfuls.now i ≤ LIMIT) }
