@@ -48,8 +48,8 @@ fn best_by<C: Criterion>(criterion: &C, mixed: MixedRing) -> Option<Bag>
 
 /// The best bag of a ring with so much of each kind, or `None` where no choice of its pans fits and has that.
 ///
-/// Goes through the choices as `search::best` does, and skips as well each block of them that has too much or too little of a
-/// kind. Takes no lent room; the time may grow with 2^pans. Bit `i` of the answer's `pans` is pan `i`.
+/// Goes through the choices as `search::best` does, and skips as well each block of them that has too much or too little of
+/// a kind. Takes no lent room; the time may grow with 2^pans. Bit `i` of the answer's `pans` is pan `i`.
 pub fn best(mixed: MixedRing) -> Option<Bag>
     ensures { Found (mixes mixed.entry.ring.rule mixed.entry.windows.now mixed.entry.kinds.now mixed.entry.ring.weights.now mixed.entry.ring.ages.now) mixed.entry.ring.weights.now result }
 {

@@ -1,5 +1,5 @@
-//! The scan with a test more for each kind: the best bag with so much of each kind, by trying choices one after another, with no
-//! lent room.
+//! The scan with a test more for each kind: the best bag with so much of each kind, by trying choices one after another,
+//! with no lent room.
 #![tactic(auto)]
 
 mod answer;

@@ -27,7 +27,8 @@ impl<'a, C: Criterion> Within<'a, C> {
         self.own.tally(k).weight
     }
 
-    // True if no choice of a block is within the window: its head has too much of the kind, or its fullest choice too little.
+    // True if no choice of a block is within the window: its head has too much of the kind, or its fullest choice too
+    // little.
     fn rules_out(&self, head: u64, free: u32) -> bool
         requires { (head % 2 ^ free ≡ 0) × (head + 2 ^ free ≤ 2 ^ length self.now.own.ring.weights.now) }
         ensures { result ≡ true → Outside self.now.window self.now.own.ring.weights.now head free }

@@ -4,10 +4,11 @@ use Rattle.std.proofs.lemmas.Bool.{leb-true, eqb-true, le-leb, eq-eqb}
 use Rattle.answers.specs.declared.refusal.Refusal.TheVariants.{Further}
 use Rattle.choices.specs.Stand.{Stand}
 use Rattle.kinds.specs.declared.mixed.TheConstants.{KINDS}
+use Rattle.mixing.specs.Laws.{MixRefusalsAreExact}
 use Rattle.mixing.specs.Refusals.{Mixable, kinds_fault, kinds_refusal, many, mix_refusal, wanted}
 use Rattle.mixing.specs.declared.refusal.TheConstants.{KINDS_REFUSED}
-use Rattle.packing.specs.Refusals.{Accepted}
-use Rattle.packing.proofs.Refused.{cond_none, mapped_none, none_above, none_below, refusals_are_exact}
+use Rattle.packing.specs.Refusals.{Accepted, first_refusal}
+use Rattle.packing.proofs.Refused.{cond_none, mapped_none, none_above, none_below, or_parts, refusals_are_exact}
 
 some_kind : (n : ℕ) → n ≡ wanted n → 6 ≤ n
 some_kind n e = omega (arith, e)
@@ -36,3 +37,9 @@ mixes_refused rs s ks a =
       none_below (many rs - 1) 0 ks (λ i. omega (arith, a.known i)),
     )
     refl
+
+pub refusals_exact : MixRefusalsAreExact
+refusals_exact rs s ks = (gives, mixes_refused rs s ks)
+  where
+    gives : mix_refusal rs s ks ≡ None → Mixable rs s ks
+    gives h = let p = or_parts (first_refusal (wanted (length rs)) rs s) _ h in mixable rs s ks ((refusals_are_exact (wanted (length rs)) rs s).0 p.0) p.1

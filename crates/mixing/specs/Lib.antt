@@ -4,3 +4,4 @@ pub mod Windows
 pub mod Kind
 pub mod Entry
 pub mod Season
+pub mod Laws

@@ -1,5 +1,5 @@
 -- A season of bags with so much of each kind. Assumes nothing: these are definitions.
---   PlayedMix            a season was played: the kind of bag, its course and what is promised of it, and what was given away
+--   PlayedMix            a season was played: the kind of bag, its course, what is promised of it, and what was given away
 --   mix_season_refusal   what a season is turned away for (1 to 4), the rule being as long as it is wanted; then 6
 --   MixSeasoned          what each answer says
 --   MixUntouched         once begun no bag of a season is turned away
@@ -21,7 +21,8 @@ pub record PlayedMix (rs ks hs : List ℕ) (wanted : ℕ) (s t : Stand) (p : Pla
   pub given : p.given_away + p.bags * (rule_in rs).target ≡ p.weight
 
 abbrev pub mix_season_refusal : (rule : List ℕ) → Stand → (kinds handfuls : List ℕ) → (bags : ℕ) → Option Refusal
-mix_season_refusal rs s ks hs n = or_else (season_refusal (long_wanted (length rs)) rs s hs n) (kinds_refusal (many rs) (length s.weights) ks)
+mix_season_refusal rs s ks hs n =
+    or_else (season_refusal (long_wanted (length rs)) rs s hs n) (kinds_refusal (many rs) (length s.weights) ks)
 
 abbrev pub MixSeasoned : Option Refusal → (rs ks hs : List ℕ) (wanted : ℕ) → Stand → Result Played Refusal → Stand → Type 0
 MixSeasoned None rs ks hs n s (Ok p) t = PlayedMix rs ks hs n s t p
@@ -31,4 +32,5 @@ MixSeasoned (Some g) rs ks hs n s (Err f) t = (f ≡ g) × (t ≡ s)
 
 abbrev pub MixUntouched : (rs ks hs : List ℕ) → Stand → Type 0
 MixUntouched rs ks hs s =
-    (first k : Mix) (t : Stand) (j n v : ℕ) → IsMix rs ks first → Course mix_allows same_mix hs first s k t j n v → mix_refusal rs t ks ≡ None
+    (first k : Mix) (t : Stand) (j n v : ℕ) → IsMix rs ks first →
+    Course mix_allows same_mix hs first s k t j n v → mix_refusal rs t ks ≡ None

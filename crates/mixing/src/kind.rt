@@ -60,8 +60,8 @@ pub(crate) fn mix_of<'a>(whole: Rule, rule: &[u32], kinds: &'a [u32]) -> Mix<'a>
     }
 }
 
-// The best of all choices that fit a rule and have so much of each kind, in the lent rooms. All is lent for one and the same time,
-// since a mixed ring holds it so.
+// The best of all choices that fit a rule and have so much of each kind, in the lent rooms. All is lent for one and the same
+// time, since a mixed ring holds it so.
 fn find_by<'x>(
     rule: Rule,
     windows: &'x [Window],

@@ -14,8 +14,8 @@ use packing::checked;
 /// The number of the refusal that is for kinds.
 pub const KINDS_REFUSED: u64 = 6;
 
-// How many numbers a rule has to have behind the four, where so many numbers are there: two for each kind, of which there is one
-// at least.
+// How many numbers a rule has to have behind the four, where so many numbers are there: two for each kind, of which there is
+// one at least.
 pub(crate) fn behind(numbers: usize) -> usize
     requires { numbers < 2 ^ 61 }
     ensures value { 4 + result ≡ wanted numbers }
@@ -42,8 +42,8 @@ fn first_unknown(kinds: &[u32], many: usize) -> Option<u64>
     Some(place as u64)
 }
 
-/// What is wrong with the kinds of so many pans, by a rule of so many kinds: more than four kinds (6, at how many), not a kind for
-/// each pan (6, at how many kinds there are), or else a kind that the rule doesn't have (6, at its first pan).
+/// What is wrong with the kinds of so many pans, by a rule of so many kinds: more than four kinds (6, at how many), not a
+/// kind for each pan (6, at how many kinds there are), or else a kind that the rule doesn't have (6, at its first pan).
 pub(crate) fn check_kinds(kinds: &[u32], many: usize, pans: usize) -> Result<(), Refusal>
     requires { 1 ≤ many }
     ensures { result ≡ passed (kinds_refusal many pans kinds.now) tt }
@@ -60,7 +60,8 @@ pub(crate) fn check_kinds(kinds: &[u32], many: usize, pans: usize) -> Result<(),
     }
 }
 
-/// The rule for the whole bag, where everything is in order, or the first refusal that applies (1 to 3, then 6, places from 0).
+/// The rule for the whole bag, where everything is in order, or the first refusal that applies (1 to 3, then 6, places from
+/// 0).
 ///
 /// A rule in numbers is target, above, pans, age, and behind them the least and the most of kind 0, of kind 1, and so on.
 pub(crate) fn checked_mix(

@@ -9,12 +9,12 @@ use crate::rooms::MixRooms;
 use answers::{Played, Refusal};
 use seasons::{play, season_checked, told};
 
-/// Plays a season of so many bags by a rule with kinds, in the lent rooms: each bag is the best of its stand, exactly as `mix` makes
-/// it, and then the list's handfuls fall in turn into the empty pans, until the bags are made or no choice is allowed. A pan keeps
-/// its kind.
+/// Plays a season of so many bags by a rule with kinds, in the lent rooms: each bag is the best of its stand, exactly as
+/// `mix` makes it, and then the list's handfuls fall in turn into the empty pans, until the bags are made or no choice is
+/// allowed. A pan keeps its kind.
 ///
-/// Weights and handfuls are in the scale's unit. Refuses what `seasons::season_checked` refuses (1 to 4), and then wrong kinds (6)
-/// as `mix` does; and then changes nothing. Once begun no bag is turned away.
+/// Weights and handfuls are in the scale's unit. Refuses what `seasons::season_checked` refuses (1 to 4), and then wrong
+/// kinds (6) as `mix` does; and then changes nothing. Once begun no bag is turned away.
 pub fn mix_season(
     rule: &[u32],
     weights: &mut [u32],
