@@ -47,11 +47,11 @@ none_above m i (x ∷ xs) h k = at (leb x m) refl h (none_above m (i + 1) xs) k
     at true e h rest (suc k) = rest h k
     at false e h rest k = absurd (some_none h)
 
-or_parts : {X : Type 0} (o q : Option X) → or_else o q ≡ None → (o ≡ None) × (q ≡ None)
+pub or_parts : {X : Type 0} (o q : Option X) → or_else o q ≡ None → (o ≡ None) × (q ≡ None)
 or_parts None q h = (refl, h)
 or_parts (Some x) q h = absurd (some_none h)
 
-cond_none : {X : Type 0} (b : Bool) (o : Option X) (x : X) → cond b o (Some x) ≡ None → (b ≡ true) × (o ≡ None)
+pub cond_none : {X : Type 0} (b : Bool) (o : Option X) (x : X) → cond b o (Some x) ≡ None → (b ≡ true) × (o ≡ None)
 cond_none true o x h = (refl, h)
 cond_none false o x h = absurd (some_none h)
 
@@ -83,7 +83,7 @@ accepted {long} {rs} {s} r p n =
     target true h = refl
     target false h = absurd (some_none {x = 0} h)
 
-mapped_none : {X Y : Type 0} (f : X → Y) (o : Option X) → option_map f o ≡ None → o ≡ None
+pub mapped_none : {X Y : Type 0} (f : X → Y) (o : Option X) → option_map f o ≡ None → o ≡ None
 mapped_none f None h = refl
 mapped_none f (Some x) h = absurd (some_none h)
 

@@ -1,10 +1,12 @@
 -- The tally of a choice from those of its groups of pans.
-use Rattle.std.proofs.Common.{◌≡◌, ℕ, ◌+◌, ◌*◌, ◌/◌, ◌%◌, ◌^◌, ◌<◌, ◌≤◌, length, get_or, inl, inr, arith}
-use Rattle.std.proofs.lemmas.Nat.{pow_below}
+use Rattle.std.proofs.Common.{◌≡◌, ℕ, ◌+◌, ◌*◌, ◌/◌, ◌%◌, ◌^◌, ◌<◌, ◌≤◌, length, get_or, inl, inr, add-zero, arith}
+use lib.Count.{count_trailing_zeros}
+use Rattle.std.proofs.lemmas.Nat.{pow_below, pow_pos, mod_low}
 use Rattle.std.proofs.lemmas.Bool.{cases_lt}
 use Rattle.choices.specs.Numbered.{choice_of}
 use Rattle.choices.specs.Tallied.{Tallied}
 use Rattle.choices.specs.declared.tally.Tally.{Tally}
+use Rattle.choices.proofs.Blocks.{zeros_multiple, block_within}
 use Rattle.choices.proofs.Numbers.{length_choice_of}
 use Rattle.choices.proofs.Tallies.{Small, tallied_small}
 use Rattle.search.specs.Groups.{part, nothing}
@@ -51,3 +53,11 @@ candidate n k l h = elim (cases_lt n 24) [ inl b ↦ omega (arith, pow_below n 2
 -- a block within them has 24 free pans at most
 pub narrow : (n k t : ℕ) → k + 2 ^ t ≤ 2 ^ n → t ≤ n
 narrow n k t h = elim (cases_lt n t) [ inl b ↦ absurd (omega (arith, pow_below n t b)) | inr b ↦ b ]
+
+-- a number and the zeros at its end are a block within the candidates
+pub block : (n k t : ℕ) → t ≤ count_trailing_zeros 64 k → t ≤ n → k < 2 ^ n → (k % 2 ^ t ≡ 0) × (k + 2 ^ t ≤ 2 ^ n)
+block n k t zeros free h =
+    let q = zeros_multiple 64 k t zeros in (
+      rw (q.1, ← add-zero (q.0 * 2 ^ t)) (mod_low q.0 t 0 (pow_pos t)),
+      rw q.1 (block_within q.0 t n free (rw q.1 at h)),
+    )

@@ -26,10 +26,10 @@ module _ (ws : List ℕ) (head t j : ℕ) (block : head % 2 ^ t ≡ 0) (above : 
   inside : j - head < 2 ^ t
   inside = omega arith
 
-  sum_more : (xs : List ℕ) (n : ℕ) → weight_of xs (choice_of n j) ≡ weight_of xs (choice_of n head) + weight_of xs (choice_of n (j - head))
+  pub sum_more : (xs : List ℕ) (n : ℕ) → weight_of xs (choice_of n j) ≡ weight_of xs (choice_of n head) + weight_of xs (choice_of n (j - head))
   sum_more xs n = rw (same, times) at (sum_apart xs n (head / 2 ^ t) t (j - head) inside)
 
-  sum_last : (xs : List ℕ) (n : ℕ) → weight_of xs (choice_of n j) ≤ weight_of xs (choice_of n (head + 2 ^ t - 1))
+  pub sum_last : (xs : List ℕ) (n : ℕ) → weight_of xs (choice_of n j) ≤ weight_of xs (choice_of n (head + 2 ^ t - 1))
   sum_last xs n =
       let last : head / 2 ^ t * 2 ^ t + (2 ^ t - 1) ≡ head + 2 ^ t - 1 = omega (arith, times, pow_pos t) in
       rw (same, last) at (opens_weight xs n _ _ (last_opens (head / 2 ^ t) t (j - head) inside))

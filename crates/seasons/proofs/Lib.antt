@@ -1,4 +1,4 @@
 -- The lemmas that several proofs share.
 mod Filling
-mod Playing
+pub mod Playing
 mod ByRule

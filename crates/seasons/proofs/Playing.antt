@@ -69,7 +69,7 @@ module _ {K : Type 0} {allows : K → May} {age least top : K → ℕ} {after : 
       (made_in_order (omega (arith, (bags_same law (season_bags h)).0)) (course_ordered small young o h) m)
 
   -- as many pans as at the start
-  course_long : {hs : List ℕ} {first : K} {s : Stand} {k : K} {t : Stand} {j n v : ℕ} → Course allows after hs first s k t j n v → length t.weights ≡ length s.weights
+  pub course_long : {hs : List ℕ} {first : K} {s : Stand} {k : K} {t : Stand} {j n v : ℕ} → Course allows after hs first s k t j n v → length t.weights ≡ length s.weights
   course_long begins = refl
   course_long {hs} (goes {t = t} {u = u} {j = j} h m) =
       length_falls (hands_fall hs u.weights (place hs 0 j)) ∙ ap (λ (x : Stand). length x.weights) m.leaves ∙ length_marked _ t.weights m.choice ∙ course_long h

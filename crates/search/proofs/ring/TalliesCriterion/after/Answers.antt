@@ -1,20 +1,10 @@
 -- What is left of the proof that what is passed over is of no use.
-use Rattle.std.proofs.Common.{◌≡◌, ℕ, ◌+◌, ◌*◌, ◌%◌, ◌^◌, ◌<◌, ◌≤◌, length, refl, add-zero, arith}
-use lib.Count.{count_trailing_zeros}
-use Rattle.std.proofs.lemmas.Nat.{one_shl, pow_pos, mod_low}
-use Rattle.choices.proofs.Blocks.{zeros_multiple, block_within}
-use Rattle.search.proofs.Groups.{candidate}
+use Rattle.std.proofs.Common.{◌≡◌, ◌*◌, ◌%◌, ◌^◌, length, refl, arith}
+use Rattle.std.proofs.lemmas.Nat.{one_shl, pow_pos}
+use Rattle.search.proofs.Groups.{block, candidate}
 use Rattle.search.proofs.Useless.{pass_none, pass_some}
 use Rattle.search.proofs.ring.TalliesCriterion.after.Goals as goal
 use Rattle.search.proofs.ring.TalliesCriterion.after.Goals.{in-None, in-Some}
-
--- a number and the zeros at its end are a block within the candidates
-block : (n k t : ℕ) → t ≤ count_trailing_zeros 64 k → t ≤ n → k < 2 ^ n → (k % 2 ^ t ≡ 0) × (k + 2 ^ t ≤ 2 ^ n)
-block n k t zeros free h =
-    let q = zeros_multiple 64 k t zeros in (
-      rw (q.1, ← add-zero (q.0 * 2 ^ t)) (mod_low q.0 t 0 (pow_pos t)),
-      rw q.1 (block_within q.0 t n free (rw q.1 at h)),
-    )
 
 pub tally-requires : goal.tally-requires
 tally-requires c =

@@ -1,0 +1,6 @@
+-- The lemmas that several proofs share.
+mod OneKind
+mod Playing
+mod Promised
+mod Reading
+mod Refused
