@@ -1,3 +1,5 @@
 -- The lemmas that several proofs share.
-mod Sums
-mod First
+mod ByKind
+mod Groups
+mod Walking
+mod Mixing

@@ -1,1 +1,3 @@
--- No definitions of its own: the contracts cite those of the crates below.
+-- The definitions that contracts cite.
+pub mod Passing
+pub mod Walk

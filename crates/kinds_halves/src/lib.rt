@@ -2,7 +2,9 @@
 #![tactic(auto)]
 
 mod answer;
-mod keeping;
+mod row;
+mod sums;
+mod walk;
 
 pub use answer::best;
-pub use halves::{ROOM, room_for};
+pub use halves::{ROOM, full_room, room_for};
