@@ -7,11 +7,11 @@ use Rattle.choices.specs.Choice.{Choice}
 use Rattle.halves_places.specs.Place.{place}
 use Rattle.halves_places.specs.declared.way.Way.{Way}
 use Rattle.halves_sweeps.specs.Sweep.{Apart, LeastOf, Together}
-use Rattle.halves.specs.Half.{Half}
+use Rattle.halves.specs.Half.{Half, Wanted}
 use Rattle.halves.specs.Next.{Allowed, Filled, Next}
 use Rattle.halves.specs.Entries.{before, half_of}
 use Rattle.halves.specs.declared.filled.Halves.{Halves}
-use Rattle.halves.proofs.Joining.{tops_low, apart, least_of, first_of}
+use Rattle.halves.proofs.Joining.{Held, Joined, apart, first_of, held, joined, least_of, tops_low}
 use Rattle.halves.proofs.RoomParts.{half_whole}
 
 module _ (ws : List ℕ) (vs : List Way) (s : Halves) (few : length ws ≤ 24) (paired : length vs ≡ length ws) (light : (i : ℕ) → get_or ws i 0 ≤ 1000000) (f : Filled ws vs s) where
@@ -32,6 +32,13 @@ module _ (ws : List ℕ) (vs : List Way) (s : Halves) (few : length ws ≤ 24) (
 
   pub asked_apart : Apart (take s.top s.tops) s.lists.front.now s.lists.back.now
   asked_apart = apart s.bounds ws vs few paired light _ _ three _ _ _ tops_whole f.front f.back
+
+  -- any top and entries make a choice, and each wanted choice has some
+  pub asked_joined : (i p q : ℕ) → i < length (take s.top s.tops) → p < length s.lists.front.now → q < length s.lists.back.now → Joined ws vs (take s.top s.tops) s.lists.front.now s.lists.back.now i p q
+  asked_joined = joined s.bounds ws vs few paired light _ _ three _ _ _ tops_whole f.front f.back
+
+  pub asked_held : (cs : Choice) → Wanted s.bounds ws vs cs → Held (take s.top s.tops) s.lists.front.now s.lists.back.now (place 0 ws cs)
+  asked_held = held s.bounds ws vs few paired light _ _ three _ _ _ tops_whole f.front f.back
 
   pub next_is :
       (from x : ℕ) (r : Option ℕ) → s.bounds.least * 2 ^ 29 ≤ from →

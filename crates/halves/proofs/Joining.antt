@@ -1,8 +1,8 @@
 -- The three parts of the pans and what is found among their entries.
-use Rattle.std.proofs.Common.{◌≡◌, ℕ, ◌+◌, ◌-◌, ◌*◌, ◌/◌, ◌^◌, ◌<◌, ◌≤◌, true, List, ◌++◌, length, get_or, drop, sym, ap, ◌∙◌, ⊎_elim, arith}
+use Rattle.std.proofs.Common.{◌≡◌, ℕ, ◌+◌, ◌-◌, ◌*◌, ◌^◌, ◌<◌, ◌≤◌, true, List, ◌++◌, length, get_or, drop, sym, ap, ◌∙◌, ⊎_elim, arith}
 use Rattle.std.proofs.lemmas.Bool.{cases_lt}
 use Rattle.std.proofs.lemmas.List.{length-take, length-drop, length-append, drop-drop, take_at, drop_at, take_all}
-use Rattle.choices.specs.Choice.{Choice, weight_of, opened}
+use Rattle.choices.specs.Choice.{Choice, opened}
 use Rattle.halves_places.specs.Place.{by_ways, place, pans_in}
 use Rattle.halves_places.specs.declared.way.Way.{Way}
 use Rattle.halves_places.proofs.Places.{length_by_ways, place_says, place_below}
@@ -13,7 +13,7 @@ use Rattle.halves_sieves.proofs.Parts.{opened_cut}
 use Rattle.halves_sweeps.specs.Sweep.{Apart, LeastOf, Together, Triple}
 use Rattle.halves.specs.Half.{Half, Wanted}
 use Rattle.halves.specs.Next.{Allowed, First}
-use Rattle.halves.proofs.Cutting.{by_ways_uncut, pans_part, part_long, place_part, back_all}
+use Rattle.halves.proofs.Cutting.{by_ways_uncut, pans_part, place_part, back_all}
 use Rattle.halves.proofs.RoomParts.{heavy_take, heavy_drop}
 
 -- a choice of each part
@@ -85,6 +85,24 @@ module _ (lim : Bounds) (ws : List ℕ) (vs : List Way) (few : length ws ≤ 24)
   pub half_low : (skip len : ℕ) (es : List ℕ) (n : ℕ) → skip + len ≤ length ws → Half lim ws vs skip len es n → (q : ℕ) → q < n → get_or es q 0 < 2 ^ 62
   half_low skip len es n within h q l = (entry skip len es n within h q l).low
 
+-- the choice that a top and an entry of each half make
+pub record Joined (ws : List ℕ) (vs : List Way) (ts fs bs : List ℕ) (i p q : ℕ) : Type 0 where
+  pub choice : Choice
+  pub ways : by_ways vs choice ≡ true
+  pub at : place 0 ws choice ≡ get_or ts i 0 + (get_or fs p 0 + get_or bs q 0)
+  pub count : opened choice ≡ pans_in (get_or ts i 0) + (pans_in (get_or bs q 0) + pans_in (get_or fs p 0))
+  pub long : length choice ≡ length ws
+
+-- a top and an entry of each half that add up to x
+pub record Held (ts fs bs : List ℕ) (x : ℕ) : Type 0 where
+  pub i : ℕ
+  pub p : ℕ
+  pub q : ℕ
+  pub top : i < length ts
+  pub front : p < length fs
+  pub back : q < length bs
+  pub adds : x ≡ get_or ts i 0 + (get_or fs p 0 + get_or bs q 0)
+
 -- the three parts, whole
 module _
     (lim : Bounds) (ws : List ℕ) (vs : List Way) (few : length ws ≤ 24) (paired : length vs ≡ length ws) (light : (i : ℕ) → get_or ws i 0 ≤ 1000000) (t h : ℕ) (three : length ws ≡ t + (h + h)) (ts fs bs : List ℕ)
@@ -112,14 +130,7 @@ module _
         rw (a, b, back_all t h ws three, back_all t h cs (e ∙ three)) (omega (arith, p.0, p.1))
 
     -- an entry of each part make a choice
-    record Joined (i p q : ℕ) : Type 0 where
-      choice : Choice
-      ways : by_ways vs choice ≡ true
-      at : place 0 ws choice ≡ get_or ts i 0 + (get_or fs p 0 + get_or bs q 0)
-      count : opened choice ≡ pans_in (get_or ts i 0) + (pans_in (get_or bs q 0) + pans_in (get_or fs p 0))
-      long : length choice ≡ length ws
-
-    joined : (i p q : ℕ) → i < length ts → p < length fs → q < length bs → Joined i p q
+    pub joined : (i p q : ℕ) → i < length ts → p < length fs → q < length bs → Joined ws vs ts fs bs i p q
     joined i p q a b c =
         let x = top_entry i a in
         let y = front_entry p b in
@@ -143,31 +154,27 @@ module _
         let j = joined i p q a b c in
         ap pans_in (sym j.at) ∙ ((place_says ws j.choice few j.long).1 ∙ j.count)
 
+    -- a wanted choice is a top and an entry of each half
+    pub held : (es : Choice) → Wanted lim ws vs es → Held ts fs bs (place 0 ws es)
+    held es a =
+        let u : Holds ts (length ts) (place (length ws - (0 + t)) (part 0 t ws) (part 0 t es)) = tops.every es a in
+        let v : Holds fs (length fs) (place (length ws - (t + h)) (part t h ws) (part t h es)) = front.every es a in
+        let w : Holds bs (length bs) (place (length ws - (t + h + h)) (part (t + h) h ws) (part (t + h) h es)) = back.every es a in
+        record { i = u.0; p = v.0; q = w.0; top = u.1; front = v.1; back = w.1; adds = omega (arith, place_three es a.bounded.whole, u.2, v.2, w.2) }
+
     pub least_of : (from x : ℕ) → lim.least * 2 ^ 29 ≤ from → LeastOf (Together lim.limit) (length ts) ts fs bs from lim.to x → (es : Choice) → Allowed lim.limit ws vs from es → x ≤ place 0 ws es
     least_of from x far g es a = ⊎_elim below (λ l. omega (arith, g.high)) (cases_lt (place 0 ws es) lim.to)
       where
         long : length es ≡ length ws
         long = length_by_ways vs es a.ways ∙ paired
 
-        says : place 0 ws es / 2 ^ 29 ≡ weight_of ws es
-        says = (place_says ws es few long).0
-
-        wanted : place 0 ws es < lim.to → Wanted lim ws vs es
-        wanted l = record { ways = a.ways; bounded = record { whole = long; few = a.few; enough = omega (arith, says, a.enough) }; below = l }
-
-        pans : (skip len x : ℕ) → skip + len ≤ length ws → place (length ws - (skip + len)) (part skip len ws) (part skip len es) ≡ x → pans_in x ≡ opened (part skip len es)
-        pans skip len x within e =
-            ap pans_in (sym e) ∙ pans_part (length ws - (skip + len)) (part skip len ws) (part skip len es) (part_long ws es long skip len) (omega (arith, length-take len (drop skip ws), length-drop skip ws))
-
         below : place 0 ws es < lim.to → x ≤ place 0 ws es
         below l =
-            let u : Holds ts (length ts) (place (length ws - (0 + t)) (part 0 t ws) (part 0 t es)) = tops.every es (wanted l) in
-            let v : Holds fs (length fs) (place (length ws - (t + h)) (part t h ws) (part t h es)) = front.every es (wanted l) in
-            let w : Holds bs (length bs) (place (length ws - (t + h + h)) (part (t + h) h ws) (part (t + h) h es)) = back.every es (wanted l) in
-            let sum : place 0 ws es ≡ get_or ts u.0 0 + (get_or fs v.0 0 + get_or bs w.0 0) = omega (arith, place_three es long, u.2, v.2, w.2) in
-            let together : Together lim.limit (get_or ts u.0 0) (get_or bs w.0 0) (get_or fs v.0 0) =
-            omega (arith, a.few, opened_three es t h (long ∙ three), pans 0 t _ (omega arith) (sym u.2), pans t h _ (omega arith) (sym v.2), pans (t + h) h _ (omega arith) (sym w.2)) in
-            omega (arith, sum, g.least u.0 v.0 w.0 u.1 v.1 w.1 together (omega (arith, sum, a.enough)))
+            let says = place_says ws es few long in
+            let w : Held ts fs bs (place 0 ws es) = held es (record { ways = a.ways; bounded = record { whole = long; few = a.few; enough = omega (arith, says.0, a.enough) }; below = l }) in
+            let together : Together lim.limit (get_or ts w.i 0) (get_or bs w.q 0) (get_or fs w.p 0) =
+            omega (arith, a.few, says.1, ap pans_in w.adds, apart w.i w.p w.q w.top w.front w.back) in
+            omega (arith, w.adds, g.least w.i w.p w.q w.top w.front w.back together (omega (arith, w.adds, a.enough)))
 
     pub first_of : (from x : ℕ) → lim.least * 2 ^ 29 ≤ from → x < lim.to → LeastOf (Together lim.limit) (length ts) ts fs bs from lim.to x → First lim.limit ws vs from lim.to x
     first_of from x far l g =

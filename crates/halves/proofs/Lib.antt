@@ -1,6 +1,6 @@
 -- The lemmas that several proofs share, here and in the crates above.
 mod Answered
-mod Asking
+pub mod Asking
 mod Cutting
-mod Joining
+pub mod Joining
 mod RoomParts

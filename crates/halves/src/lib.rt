@@ -15,5 +15,5 @@ pub use halves::{fill, next};
 pub use halves_places::{Pans, Way, bag_in, pans_in, weight_in};
 pub use halves_sieves::Bounds;
 pub use placed::Placed;
-pub use ring_halves::RingHalves;
+pub use ring_halves::{RingHalves, fill_for};
 pub use rooms::{ROOM, full_room, room_for};

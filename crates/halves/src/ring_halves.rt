@@ -20,6 +20,29 @@ pub struct RingHalves<'a> {
     ghost filled: { ∥ FilledFor ring.rule ring.weights.now ring.ages.now halves ∥₁ },
 }
 
+/// Fills a lent room with the choices that fit a ring's rule. The room has at least [`room_for`](crate::room_for) entries for the
+/// ring's pans, and stays lent.
+pub fn fill_for<'a>(ring: Ring, room: &'a mut [u64]) -> Halves<'a>
+    requires { room_for (length ring.weights.now) ≤ length room.old }
+    ensures { FilledFor ring.entry.rule ring.entry.weights.now ring.entry.ages.now result }
+{
+    let count = ring.weights.len();
+    let made = ways(ring);
+    let pans = Pans {
+        weights: ring.weights,
+        ways: &made[..count],
+    };
+    let target = u64::from(ring.rule.target);
+    let above = u64::from(ring.rule.above);
+    fill(
+        pans,
+        ring.rule.pans,
+        ring.rule.target,
+        (target + above + 1) << 29,
+        room,
+    )
+}
+
 impl<'a> RingHalves<'a> {
     /// Fills a lent room, which has at least [`room_for`](crate::room_for) entries for the ring's pans and stays lent.
     pub fn of(ring: Ring<'a>, room: &'a mut [u64]) -> RingHalves<'a>
@@ -28,21 +51,7 @@ impl<'a> RingHalves<'a> {
         ensures weights { result.ring.weights.now ≡ ring.entry.weights.now }
         ensures ages { result.ring.ages.now ≡ ring.entry.ages.now }
     {
-        let count = ring.weights.len();
-        let made = ways(ring);
-        let pans = Pans {
-            weights: ring.weights,
-            ways: &made[..count],
-        };
-        let target = u64::from(ring.rule.target);
-        let above = u64::from(ring.rule.above);
-        let halves = fill(
-            pans,
-            ring.rule.pans,
-            ring.rule.target,
-            (target + above + 1) << 29,
-            room,
-        );
+        let halves = fill_for(ring, room);
         RingHalves { ring, halves }
     }
 

@@ -1,0 +1,5 @@
+-- The lemmas that several proofs share.
+mod ByKind
+mod Groups
+mod Walking
+mod Mixing

@@ -1,0 +1,9 @@
+-- What the tops so far have found.
+use Rattle.kinds_halves.specs.Passing.{passes}
+use Rattle.kinds_halves.specs.Walk.{LeastPassing}
+use Rattle.kinds_halves.proofs.walk.least.Given as goal
+
+abbrev pub invariant-loop-top : goal.invariant-loop-top
+invariant-loop-top l =
+    let m = l.sums.mixed in
+    LeastPassing (passes m.ring.rule.pans m.windows.now m.kinds.now m.ring.weights.now) l.top-index l.tops l.lists.front.now l.lists.back.now l.from l.to l.found

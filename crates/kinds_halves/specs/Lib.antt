@@ -1,0 +1,3 @@
+-- The definitions that contracts cite.
+pub mod Passing
+pub mod Walk

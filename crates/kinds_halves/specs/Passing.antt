@@ -1,0 +1,20 @@
+-- What a place has to tell of its choice. Assumes nothing: these are definitions.
+--   part      the choice whose sums are entry i of the groups: choice x of group g is entry x + 64 * g, and group 0 is the last
+--             six pans
+--   told      the choice of n pans that a place tells of: its pans that stay shut are the place's lowest bits
+--   passes    the choice that a place tells of opens few enough pans and keeps the windows
+use Rattle.std.specs.Prelude.{ℕ, ◌-◌, ◌*◌, ◌/◌, ◌%◌, ◌^◌, Bool, ◌&&◌, List, length, nat_le}
+use Rattle.choices.specs.Choice.{Choice}
+use Rattle.choices.specs.Numbered.{choice_of}
+use Rattle.halves_places.specs.Place.{pans_in}
+use Rattle.kinds.specs.Kinds.{in_windows}
+use Rattle.kinds.specs.declared.mixed.Window.{Window}
+
+abbrev pub part : ℕ → ℕ
+part i = i % 64 * 2 ^ (6 * (i / 64))
+
+abbrev pub told : ℕ → ℕ → Choice
+told n x = choice_of n (2 ^ n - 1 - x % 2 ^ n)
+
+abbrev pub passes : ℕ → List Window → (kinds weights : List ℕ) → ℕ → Bool
+passes limit vs ks ws x = nat_le (pans_in x) limit && in_windows 0 vs ks ws (told (length ws) x)
