@@ -1,5 +1,5 @@
 -- What is kept between lines, as lists. Assumes nothing: these are definitions.
---   Given      how a ring's pans stand, and the handfuls of a season
+--   Given      how a ring's pans stand, the handfuls of a season, and the kind of each pan
 --   State      the rule, what the ring was given, and how many entries the halves' room has
 --   state_of   what a desk keeps
 --   Fresh      a desk with nothing on it, room for every ring, and bytes for the table
@@ -12,6 +12,7 @@ use Rattle.desk.specs.declared.kept.TheConstants.{TABLE_ROOM}
 pub record Given : Type 0 where
   pub stand : Stand
   pub handfuls : List ℕ
+  pub kinds : List ℕ
 
 pub record State : Type 0 where
   pub rule : List ℕ
@@ -22,7 +23,7 @@ abbrev pub state_of : Desk → State
 state_of d =
     record {
       rule = vec_items d.rule;
-      ring = record { stand = stand (vec_items d.ring.pans) (vec_items d.ring.ages); handfuls = vec_items d.ring.handfuls };
+      ring = record { stand = stand (vec_items d.ring.pans) (vec_items d.ring.ages); handfuls = vec_items d.ring.handfuls; kinds = vec_items d.ring.kinds };
       entries = length (vec_items d.entries);
     }
 
@@ -31,5 +32,6 @@ pub record Fresh (d : Desk) : Type 0 where
   pub pans : vec_items d.ring.pans ≡ []
   pub ages : vec_items d.ring.ages ≡ []
   pub handfuls : vec_items d.ring.handfuls ≡ []
+  pub kinds : vec_items d.ring.kinds ≡ []
   pub room : vec_len d.entries ≡ ROOM
   pub bytes : vec_len d.bytes ≡ TABLE_ROOM

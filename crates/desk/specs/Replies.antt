@@ -1,12 +1,18 @@
 -- What is answered to each command. Assumes nothing: these are definitions.
 --   Bagged     a bag was asked for: it is answered as the entry over a room answers it
 --   PlayedSo   a season was asked for: it is played, or turned away
+--   Mixed      a bag with so much of each kind was asked for: it is answered as the entry answers it
+--   MixPlayedSo   a season of such bags was asked for
 --   FellSo     a handful fell: nothing is answered, or it is turned away
 use Rattle.std.specs.Prelude.{◌≡◌, ℕ, List, Some, None, Option, Result, OnOk, slice_set}
 use Rattle.answers.specs.declared.played.Played.{Played}
 use Rattle.answers.specs.declared.refusal.Refusal.{Refusal}
 use Rattle.choices.specs.Ruled.{rule_in}
 use Rattle.choices.specs.Stand.{Stand, by_rule}
+use Rattle.mixing.specs.Entry.{AsWithoutKinds, MixPromises}
+use Rattle.mixing.specs.Refusals.{mix_refusal}
+use Rattle.mixing.specs.Season.{MixSeasoned, MixUntouched, mix_season_refusal}
+use Rattle.mixing.specs.Windows.{mixed_by, windows_in}
 use Rattle.packing.specs.Entry.{Answer, Answered, Promises}
 use Rattle.packing.specs.Refusals.{room_refusal}
 use Rattle.seasons.specs.Season.{season_refusal, Seasoned, Untouched}
@@ -23,6 +29,19 @@ pub record PlayedSo (rs : List ℕ) (s : Stand) (hs : List ℕ) (bags line : ℕ
   pub played : Result Played Refusal
   pub answered : Seasoned (season_refusal 4 rs s hs bags) (rule_in rs) hs bags s played t
   pub never : OnOk played (Untouched rs hs s)
+  pub reply : r ≡ season_reply line played
+
+pub record Mixed (rs : List ℕ) (s : Stand) (ks : List ℕ) (line : ℕ) (r : Reply) (t : Stand) : Type 0 where
+  pub answer : Answer
+  pub answered : Answered (mix_refusal rs s ks) (mixed_by (rule_in rs) (windows_in rs) ks) s answer t
+  pub promises : MixPromises (rule_in rs) (windows_in rs) ks s answer t
+  pub one_kind : AsWithoutKinds rs ks s answer t
+  pub reply : r ≡ bag_reply line answer
+
+pub record MixPlayedSo (rs : List ℕ) (s : Stand) (ks hs : List ℕ) (bags line : ℕ) (r : Reply) (t : Stand) : Type 0 where
+  pub played : Result Played Refusal
+  pub answered : MixSeasoned (mix_season_refusal rs s ks hs bags) rs ks hs bags s played t
+  pub never : OnOk played (MixUntouched rs ks hs s)
   pub reply : r ≡ season_reply line played
 
 abbrev pub FellSo : Option Refusal → List ℕ → (pan grams line : ℕ) → Option Reply → List ℕ → Type 0

@@ -12,6 +12,7 @@ pub struct Loaded {
     pub pans: Vec<u32>,
     pub ages: Vec<u32>,
     pub handfuls: Vec<u32>,
+    pub kinds: Vec<u32>,
 }
 
 /// What was given, kept as it stands; what is wrong with it is said when a bag or a season is asked for. And the rooms:
@@ -37,6 +38,7 @@ pub fn empty_desk(heap: Global) -> Result<Desk, AllocError>
         pans: Vec::new(heap),
         ages: Vec::new(heap),
         handfuls: Vec::new(heap),
+        kinds: Vec::new(heap),
     };
     Ok(Desk {
         rule: Vec::new(heap),

@@ -4,7 +4,7 @@ ghost use Rattle.desk.specs.Obeys.{Obeys};
 
 use crate::kept::Desk;
 use crate::printed::Reply;
-use crate::replies::{bag_reply, fall_reply, season_reply};
+use crate::replies::{bag_reply, fall_reply, mix_reply, mix_season_reply, season_reply};
 use text::{Command, Word};
 
 /// Does what a command asks for, and answers what is printed, if anything is. The line is where the command stands,
@@ -47,6 +47,28 @@ pub fn obey(desk: &mut Desk, command: Command, line: u64) -> Option<Reply>
             *bags,
             &mut desk.entries,
             &mut desk.bytes,
+            line,
+        )),
+        (Word::Kinds, _) => {
+            desk.ring.kinds = numbers;
+            None
+        }
+        (Word::Mix, []) => Some(mix_reply(
+            &desk.rule,
+            &mut desk.ring.pans,
+            &mut desk.ring.ages,
+            &desk.ring.kinds,
+            &mut desk.entries,
+            line,
+        )),
+        (Word::Mix, [bags]) => Some(mix_season_reply(
+            &desk.rule,
+            &mut desk.ring.pans,
+            &mut desk.ring.ages,
+            &desk.ring.kinds,
+            &desk.ring.handfuls,
+            *bags,
+            &mut desk.entries,
             line,
         )),
         _ => unreachable!(),

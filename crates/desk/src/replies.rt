@@ -1,11 +1,12 @@
 //! What the program answers to each command.
 ghost use Rattle.choices.specs.Stand.{stand};
-ghost use Rattle.desk.specs.Replies.{Bagged, FellSo, PlayedSo};
+ghost use Rattle.desk.specs.Replies.{Bagged, FellSo, MixPlayedSo, Mixed, PlayedSo};
 ghost use Rattle.seasons.specs.Fall.{fall_refusal};
 ghost use Rattle.std.specs.Prelude.{length};
 
 use crate::printed::Reply;
 use engines::Rooms;
+use mixing::{MixRooms, mix, mix_season};
 use packing::bag_in;
 use seasons::{fall, season};
 
@@ -40,6 +41,39 @@ pub(crate) fn season_reply(
 {
     let mut rooms = Rooms { entries, bytes };
     let played = season(rule, pans, ages, handfuls, bags, &mut rooms);
+    Reply::of_season(played, line)
+}
+
+// A bag with so much of each kind is made of the lent pans, or it is said why not.
+pub(crate) fn mix_reply(
+    rule: &[u32],
+    pans: &mut [u32],
+    ages: &mut [u32],
+    kinds: &[u32],
+    entries: &mut [u64],
+    line: u64,
+) -> Reply
+    ensures { Mixed rule.now (stand pans.old ages.old) kinds.now line result (stand pans.new ages.new) }
+{
+    let mut rooms = MixRooms { entries };
+    Reply::of_bag(mix(rule, pans, ages, kinds, &mut rooms), line)
+}
+
+// A season of such bags is played on the lent pans, or it is said why not.
+pub(crate) fn mix_season_reply(
+    rule: &[u32],
+    pans: &mut [u32],
+    ages: &mut [u32],
+    kinds: &[u32],
+    handfuls: &[u32],
+    bags: u32,
+    entries: &mut [u64],
+    line: u64,
+) -> Reply
+    ensures { MixPlayedSo rule.now (stand pans.old ages.old) kinds.now handfuls.now bags line result (stand pans.new ages.new) }
+{
+    let mut rooms = MixRooms { entries };
+    let played = mix_season(rule, pans, ages, kinds, handfuls, bags, &mut rooms);
     Reply::of_season(played, line)
 }
 

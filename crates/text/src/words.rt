@@ -18,6 +18,8 @@ pub enum Word {
     Bag,
     Fall,
     Bags,
+    Kinds,
+    Mix,
 }
 
 /// How many numbers a word takes.
@@ -35,12 +37,12 @@ pub enum Count {
 
 /// A row for each word, in the order in which `Word` has them: the word, how it is spelled, how many numbers it takes, and how
 /// its command is written and what it does.
-pub const ROWS: [(Word, &str, Count, &str); 7] = [
+pub const ROWS: [(Word, &str, Count, &str); 9] = [
     (
         Word::Rule,
         "rule",
         Count::Any,
-        "rule T A P O: a bag weighs at least T and at most A more, of at most P pans; who has waited O bags is in it",
+        "rule T A P O: a bag weighs T to T + A, of at most P pans, among them each that has waited O bags or more",
     ),
     (
         Word::Pans,
@@ -77,6 +79,18 @@ pub const ROWS: [(Word, &str, Count, &str); 7] = [
         "bags",
         Count::Just(1),
         "bags N: a season of N bags, at most 1000000",
+    ),
+    (
+        Word::Kinds,
+        "kinds",
+        Count::Any,
+        "kinds K..: the kind of each pan, from 0 on",
+    ),
+    (
+        Word::Mix,
+        "mix",
+        Count::NoneOrOne,
+        "mix, mix N: a bag, or a season of N bags, with so much of each kind: behind P and O the rule has a least and a most of each",
     ),
 ];
 
