@@ -1,5 +1,5 @@
 -- The least sum that passes is the best choice that mixes.
-use Rattle.std.proofs.Common.{◌≡◌, ℕ, ◌*◌, ◌^◌, ◌<◌, ◌≤◌, true, List, length, get_or, take, leb, refl, sym, ap, ◌∙◌, ⊎_elim, arith}
+use Rattle.std.proofs.Common.{◌≡◌, ℕ, ◌+◌, ◌*◌, ◌%◌, ◌^◌, ◌<◌, ◌≤◌, true, List, length, get_or, take, leb, refl, sym, ap, ◌∙◌, ⊎_elim, arith}
 use Rattle.std.proofs.lemmas.Bool.{and_parts, and_from, cases_Bool, le-leb, le-ltb, leb-true}
 use Rattle.choices.specs.Choice.{Choice, fits, keeps_old, none_empty}
 use Rattle.choices.specs.Numbered.{choice_of}
@@ -14,11 +14,13 @@ use Rattle.halves_sweeps.specs.Sweep.{Triple}
 use Rattle.halves.specs.Asked.{FilledFor}
 use Rattle.halves.specs.Half.{Wanted}
 use Rattle.halves.specs.declared.filled.Halves.{Halves}
-use Rattle.halves.proofs.Asking.{asked_held, asked_joined, asked_low}
+use Rattle.halves.specs.Next.{before, half_of}
+use Rattle.halves.proofs.Asking.{asked_back, asked_front, asked_held, asked_joined, asked_low, asked_top}
 use Rattle.halves.proofs.Joining.{Held, Joined}
 use Rattle.kinds.specs.Kinds.{in_windows, mixes}
 use Rattle.kinds.specs.declared.mixed.Window.{Window}
 use Rattle.kinds_halves.specs.Passing.{passes, told}
+use Rattle.kinds_halves.proofs.Clearing.{entry_clear, entry_shut}
 use Rattle.kinds_halves.specs.Walk.{LeastPassing, Passing}
 use Rattle.order.specs.Order.{BestBag, NoneOf}
 use Rattle.order.specs.declared.bag.Bag.{Bag}
@@ -33,6 +35,17 @@ module _ (r : Rule) (vs : List Window) (ks ws as' : List ℕ) (few : length ws �
 
   pub tops_low : (t : ℕ) → t < length (take s.top s.tops) → get_or (take s.top s.tops) t 0 < 2 ^ 62
   tops_low = asked_low ws (ways r.age ws as') s few long light h.filled
+
+  pub tops_clear : (t : ℕ) → t < length (take s.top s.tops) → get_or (take s.top s.tops) t 0 % 2 ^ half_of (length ws) ≡ 0
+  tops_clear t l = entry_clear ws (ways r.age ws as') few 0 (before (length ws)) _ (asked_top ws (ways r.age ws as') s few long light h.filled t l) (omega arith) (half_of (length ws)) (omega arith)
+
+  pub front_clear : (p : ℕ) → p < length s.lists.front.now → get_or s.lists.front.now p 0 % 2 ^ half_of (length ws) ≡ 0
+  front_clear p l =
+      entry_clear ws (ways r.age ws as') few (before (length ws)) (half_of (length ws)) _ (asked_front ws (ways r.age ws as') s few long light h.filled p l) (omega arith) (half_of (length ws)) (omega arith)
+
+  pub back_shut : (q : ℕ) → q < length s.lists.back.now → get_or s.lists.back.now q 0 % 2 ^ 24 < 2 ^ half_of (length ws)
+  back_shut q l =
+      entry_shut ws (ways r.age ws as') few (before (length ws) + half_of (length ws)) (half_of (length ws)) _ (asked_back ws (ways r.age ws as') s few long light h.filled q l) (omega arith) (omega arith)
 
   module _ (from x : ℕ) (is : from ≡ r.target * 2 ^ 29) (g : LeastPassing (passes r.pans vs ks ws) (length (take s.top s.tops)) (take s.top s.tops) s.lists.front.now s.lists.back.now from s.bounds.to x) where
     -- what mixes is a sum that passes

@@ -4,6 +4,7 @@ ghost use Rattle.kinds.specs.Kinds.{mixes};
 ghost use Rattle.order.specs.Order.{Found};
 ghost use Rattle.std.specs.Prelude.{◌≤◌, length};
 
+use crate::sides::Sides;
 use crate::sums::Sums;
 use crate::walk::least;
 use halves::{bag_in, fill_for};
@@ -22,7 +23,11 @@ pub fn best(mixed: MixedRing, room: &mut [u64]) -> Option<Bag>
     let sums = Sums::of(mixed);
     let from = u64::from(mixed.ring.rule.target) << 29;
     let to = halves.bounds.to;
-    let place = least(&sums, &halves.tops[..halves.top], halves.lists, from, to);
+    let sides = Sides {
+        lists: halves.lists,
+        free: (mixed.ring.weights.len() - 1) / 2,
+    };
+    let place = least(&sums, &halves.tops[..halves.top], sides, from, to);
     if place < to {
         Some(bag_in(mixed.ring, place))
     } else {

@@ -1,8 +1,9 @@
 //! What lies of each kind in the opened pans of a choice, from sums made once, so that any choice takes three additions a kind.
+ghost use Rattle.choices.specs.Choice.{Choice};
 ghost use Rattle.choices.specs.Numbered.{choice_of};
 ghost use Rattle.kinds.specs.Kinds.{in_windows, weight_of_kind};
-ghost use Rattle.kinds_halves.specs.Passing.{part as part_at, passes};
-ghost use Rattle.std.specs.Prelude.{◌≡◌, ℕ, ◌^◌, ◌<◌, List, [], length, slice_index, slice_index_or};
+ghost use Rattle.kinds_halves.specs.Passing.{Between, Useless, part as part_at, passes};
+ghost use Rattle.std.specs.Prelude.{◌≡◌, ℕ, ◌%◌, ◌^◌, ◌<◌, ◌≤◌, true, false, List, [], length, slice_index, slice_index_or};
 
 use halves::pans_in;
 use kinds::{KINDS, MixedRing};
@@ -76,6 +77,35 @@ impl<'a> Sums<'a> {
             }
         }
         true
+    }
+
+    // True if a choice can't keep the windows that opens no less than the barest choice and no more than the fullest: one kind
+    // has too much in the barest already, or too little in the fullest.
+    fn misses(&self, barest: u64, fullest: u64) -> bool
+        requires barest { barest < 2 ^ 24 }
+        requires fullest { fullest < 2 ^ 24 }
+        ensures { result ≡ true → (cs : Choice) → Between self.now.mixed.kinds.now self.now.mixed.ring.weights.now barest fullest cs → in_windows 0 self.now.mixed.windows.now self.now.mixed.kinds.now self.now.mixed.ring.weights.now cs ≡ false }
+    {
+        for (kind, window) in self.mixed.windows.iter().enumerate() {
+            if self.sum(fullest, kind) < window.least || self.sum(barest, kind) > window.most {
+                return true;
+            }
+        }
+        false
+    }
+
+    /// True if no choice passes whose pans but the last `free` are as `place` tells, whatever it opens of these.
+    ///
+    /// `place` is that of the other pans' choice, so it has no bit for the last `free` of the ring.
+    pub fn useless(&self, place: u64, free: usize) -> bool
+        requires within { free ≤ length self.now.mixed.ring.weights.now }
+        requires clear { place % 2 ^ free ≡ 0 }
+        ensures { result ≡ true → Useless (passes self.now.mixed.ring.rule.pans self.now.mixed.windows.now self.now.mixed.kinds.now self.now.mixed.ring.weights.now) place free }
+    {
+        let choices = 1u64 << self.mixed.ring.weights.len();
+        let fullest = choices - 1 - place % choices;
+        let last = (1u64 << free) - 1;
+        self.misses(fullest - last, fullest)
     }
 
     /// Whether the choice that has this place opens few enough pans and keeps the windows.
