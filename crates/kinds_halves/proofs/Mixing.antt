@@ -19,7 +19,7 @@ use Rattle.halves.proofs.Asking.{asked_back, asked_front, asked_held, asked_join
 use Rattle.halves.proofs.Joining.{Held, Joined}
 use Rattle.kinds.specs.Kinds.{in_windows, mixes}
 use Rattle.kinds.specs.declared.mixed.Window.{Window}
-use Rattle.kinds_halves.specs.Passing.{passes, told}
+use Rattle.kinds_halves.specs.Passing.{passes_by, told}
 use Rattle.kinds_halves.proofs.Clearing.{entry_clear, entry_shut}
 use Rattle.kinds_halves.specs.Walk.{LeastPassing, Passing}
 use Rattle.order.specs.Order.{BestBag, NoneOf}
@@ -47,7 +47,7 @@ module _ (r : Rule) (vs : List Window) (ks ws as' : List ℕ) (few : length ws �
   back_shut q l =
       entry_shut ws (ways r.age ws as') few (before (length ws) + half_of (length ws)) (half_of (length ws)) _ (asked_back ws (ways r.age ws as') s few long light h.filled q l) (omega arith) (omega arith)
 
-  module _ (from x : ℕ) (is : from ≡ r.target * 2 ^ 29) (g : LeastPassing (passes r.pans vs ks ws) (length (take s.top s.tops)) (take s.top s.tops) s.lists.front.now s.lists.back.now from s.bounds.to x) where
+  module _ (from x : ℕ) (is : from ≡ r.target * 2 ^ 29) (g : LeastPassing (passes_by r.pans vs ks ws) (length (take s.top s.tops)) (take s.top s.tops) s.lists.front.now s.lists.back.now from s.bounds.to x) where
     -- what mixes is a sum that passes
     no_better : (cs : Choice) → mixes r vs ks ws as' cs ≡ true → x ≤ place 0 ws cs × (place 0 ws cs < s.bounds.to)
     no_better cs e =
@@ -63,7 +63,7 @@ module _ (r : Rule) (vs : List Window) (ks ws as' : List ℕ) (few : length ws �
         } in
         let d : Held (take s.top s.tops) s.lists.front.now s.lists.back.now (place 0 ws cs) = asked_held ws (ways r.age ws as') s few long light h.filled cs w in
         let limit : leb (pans_in (place 0 ws cs)) r.pans ≡ true = le-leb _ _ (omega (arith, p.1, f.few)) in
-        let ok : passes r.pans vs ks ws (place 0 ws cs) ≡ true = and_from _ _ limit (rw (told_place ws cs few f.whole) m.1) in
+        let ok : passes_by r.pans vs ks ws (place 0 ws cs) ≡ true = and_from _ _ limit (rw (told_place ws cs few f.whole) m.1) in
         (omega (arith, d.adds, g.least d.i d.p d.q d.top d.front d.back (rw d.adds at ok) (omega (arith, d.adds, p.0, f.enough))), below)
 
     pub none_mixes : s.bounds.to ≤ x → NoneOf (mixes r vs ks ws as')
@@ -71,11 +71,11 @@ module _ (r : Rule) (vs : List Window) (ks ws as' : List ℕ) (few : length ws �
 
     pub least_is_best : (b : Bag) → x < s.bounds.to → Says ws x b → BestBag (mixes r vs ks ws as') ws b
     least_is_best b l says =
-        let v : Triple (Passing (passes r.pans vs ks ws)) (length (take s.top s.tops)) (take s.top s.tops) s.lists.front.now s.lists.back.now from x = g.found l in
+        let v : Triple (Passing (passes_by r.pans vs ks ws)) (length (take s.top s.tops)) (take s.top s.tops) s.lists.front.now s.lists.back.now from x = g.found l in
         let j : Joined ws (ways r.age ws as') (take s.top s.tops) s.lists.front.now s.lists.back.now v.t v.p v.q = asked_joined ws (ways r.age ws as') s few long light h.filled v.t v.p v.q v.top v.front v.back in
         let cs = j.choice in
         let at : place 0 ws cs ≡ x = j.at ∙ v.adds in
-        let ok : passes r.pans vs ks ws x ≡ true = rw v.adds at v.right in
+        let ok : passes_by r.pans vs ks ws x ≡ true = rw v.adds at v.right in
         let m = and_parts (leb (pans_in x) r.pans) (in_windows 0 vs ks ws (told (length ws) x)) ok in
         let p = place_says ws cs few j.long in
         let k = and_parts (none_empty ws cs) (keeps_old r.age as' cs) (sym (by_ring r.age ws as' cs paired j.long) ∙ j.ways) in

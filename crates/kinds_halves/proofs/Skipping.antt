@@ -9,7 +9,7 @@ use Rattle.choices.proofs.Blocks.{last_opens}
 use Rattle.halves_places.specs.Place.{pans_in}
 use Rattle.kinds.specs.Kinds.{in_windows, weight_of_kind}
 use Rattle.kinds.specs.declared.mixed.Window.{Window}
-use Rattle.kinds_halves.specs.Passing.{Between, Useless, passes, told}
+use Rattle.kinds_halves.specs.Passing.{Between, Useless, passes_by, told}
 use Rattle.kinds_halves.proofs.ByKind.{kind_apart, kind_opens}
 
 -- what keeps the windows keeps each of them
@@ -94,7 +94,7 @@ module _ (ks ws : List ℕ) (free x : ℕ) (few : length ws ≤ 24) (within : fr
 
   pub useless_is :
       (limit : ℕ) (vs : List Window) → ((cs : Choice) → Between ks ws (2 ^ length ws - 1 - x % 2 ^ length ws - (2 ^ free - 1)) (2 ^ length ws - 1 - x % 2 ^ length ws) cs → in_windows 0 vs ks ws cs ≡ false) →
-      Useless (passes limit vs ks ws) x free
+      Useless (passes_by limit vs ks ws) x free
   useless_is limit vs h b shut = ap (λ (e : Bool). leb (pans_in (x + b)) limit && e) (h (told (length ws) (x + b)) (between b shut)) ∙ and_false (leb (pans_in (x + b)) limit)
     where
       and_false : (a : Bool) → (a && false) ≡ false

@@ -13,7 +13,7 @@ use order::Bag;
 
 /// The best choice that fits the ring's rule and has so much of each kind, or `None` where there is none.
 ///
-/// Found in a lent room of at least [`room_for`](crate::room_for) entries for the ring's pans, whose contents are unspecified
+/// Found in a lent room of at least [`room_for`](crate::room_for) entries for the ring's pans; its contents are unspecified
 /// afterwards. Bit `i` of the answer's `pans` is pan `i`.
 pub fn best(mixed: MixedRing, room: &mut [u64]) -> Option<Bag>
     requires { room_for (length mixed.ring.weights.now) ≤ length room.old }

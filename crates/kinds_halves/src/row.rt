@@ -48,7 +48,7 @@ impl<'a> Row<'a> {
     /// The least sum that passes, of the entries of the back list from `at` on, below `to`; `to` where there is none.
     pub fn first(self, sums: &Sums, at: usize, to: u64) -> u64
         requires { self.free ≤ length sums.now.mixed.ring.weights.now }
-        ensures { FirstPassing (passes sums.now.mixed.ring.rule.pans sums.now.mixed.windows.now sums.now.mixed.kinds.now sums.now.mixed.ring.weights.now) self.entry.top self.entry.front self.entry.back.now at to result }
+        ensures { FirstPassing (passes sums.now.mixed) self.entry.top self.entry.front self.entry.back.now at to result }
     {
         if at < self.back.len()
             && self.sum(at) < to

@@ -1,4 +1,4 @@
-//! What lies of each kind in the opened pans of a choice, from sums made once, so that any choice takes three additions a kind.
+//! What each kind has in the opened pans of a choice, from sums made once: any choice takes three additions for each kind.
 ghost use Rattle.choices.specs.Choice.{Choice};
 ghost use Rattle.choices.specs.Numbered.{choice_of};
 ghost use Rattle.kinds.specs.Kinds.{in_windows, weight_of_kind};
@@ -19,7 +19,7 @@ pub struct Sums<'a> {
     ghost weighs: { (i k : ℕ) → i < 256 → k < 4 → slice_index (slice_index_or groups i []) k ≡ weight_of_kind k mixed.kinds.now mixed.ring.weights.now (choice_of (length mixed.ring.weights.now) (part_at i)) },
 }
 
-// What each kind has in the opened pans of a choice, pan 0 in its highest bit. There is no branch on whether a pan is opened.
+// What each kind has in the opened pans of a choice, pan 0 in its highest bit. Without a branch on whether a pan is opened.
 fn by_kind(mixed: MixedRing, choice: u32) -> [u32; KINDS]
     ensures { (k : ℕ) → k < 4 → slice_index result k ≡ weight_of_kind k mixed.entry.kinds.now mixed.entry.ring.weights.now (choice_of (length mixed.entry.ring.weights.now) choice) }
 {
@@ -79,8 +79,8 @@ impl<'a> Sums<'a> {
         true
     }
 
-    // True if a choice can't keep the windows that opens no less than the barest choice and no more than the fullest: one kind
-    // has too much in the barest already, or too little in the fullest.
+    // True if no choice between the barest and the fullest keeps the windows: one kind has too much in the barest already, or
+    // too little even in the fullest.
     fn misses(&self, barest: u64, fullest: u64) -> bool
         requires barest { barest < 2 ^ 24 }
         requires fullest { fullest < 2 ^ 24 }
@@ -94,13 +94,12 @@ impl<'a> Sums<'a> {
         false
     }
 
-    /// True if no choice passes whose pans but the last `free` are as `place` tells, whatever it opens of these.
-    ///
-    /// `place` is that of the other pans' choice, so it has no bit for the last `free` of the ring.
+    /// True if no choice of all pans passes that goes on from the choice of all but the last `free` pans that has this place.
+    /// What is useless may be skipped; false says nothing.
     pub fn useless(&self, place: u64, free: usize) -> bool
         requires within { free ≤ length self.now.mixed.ring.weights.now }
         requires clear { place % 2 ^ free ≡ 0 }
-        ensures { result ≡ true → Useless (passes self.now.mixed.ring.rule.pans self.now.mixed.windows.now self.now.mixed.kinds.now self.now.mixed.ring.weights.now) place free }
+        ensures { result ≡ true → Useless (passes self.now.mixed) place free }
     {
         let choices = 1u64 << self.mixed.ring.weights.len();
         let fullest = choices - 1 - place % choices;
@@ -110,7 +109,7 @@ impl<'a> Sums<'a> {
 
     /// Whether the choice that has this place opens few enough pans and keeps the windows.
     pub fn passes(&self, place: u64) -> bool
-        ensures { result ≡ passes self.now.mixed.ring.rule.pans self.now.mixed.windows.now self.now.mixed.kinds.now self.now.mixed.ring.weights.now place }
+        ensures { result ≡ passes self.now.mixed place }
     {
         let choices = 1u64 << self.mixed.ring.weights.len();
         pans_in(place) <= u64::from(self.mixed.ring.rule.pans)

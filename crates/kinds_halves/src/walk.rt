@@ -1,7 +1,7 @@
 //! A walk over two sorted lists for the least sum that passes a test, beside each top.
 //!
-//! Like a sweep it goes down the front list and up the back list to the first sum that is large enough. From there it looks on
-//! up the back list until a sum passes, or is no better than the best so far.
+//! Like a sweep it goes down the front list and up the back list to the first sum that is large enough. From there it goes
+//! on up the back list until a sum passes, or is no better than the best so far.
 ghost use Rattle.kinds_halves.specs.Passing.{passes};
 ghost use Rattle.kinds_halves.specs.Walk.{Beside, LeastPassing, Passing};
 ghost use Rattle.halves_sweeps.specs.Sweep.{LeastOf};
@@ -16,7 +16,7 @@ fn beside(sums: &Sums, top: u64, sides: Sides, from: u64, to: u64) -> u64
     requires low { top < 2 ^ 62 }
     requires clear { top % 2 ^ sides.free ≡ 0 }
     requires within { sides.free ≤ length sums.now.mixed.ring.weights.now }
-    ensures { Beside (passes sums.now.mixed.ring.rule.pans sums.now.mixed.windows.now sums.now.mixed.kinds.now sums.now.mixed.ring.weights.now) top sides.entry.lists.front.now sides.entry.lists.back.now from to result }
+    ensures { Beside (passes sums.now.mixed) top sides.entry.lists.front.now sides.entry.lists.back.now from to result }
 {
     let mut at = 0;
     let mut left = sides.lists.front.len();
@@ -40,7 +40,7 @@ pub fn least(sums: &Sums, tops: &[u64], sides: Sides, from: u64, to: u64) -> u64
     requires low { (t : ℕ) → t < length tops.now → slice_index tops.now t < 2 ^ 62 }
     requires clear { (t : ℕ) → t < length tops.now → slice_index tops.now t % 2 ^ sides.free ≡ 0 }
     requires within { sides.free ≤ length sums.now.mixed.ring.weights.now }
-    ensures { LeastPassing (passes sums.now.mixed.ring.rule.pans sums.now.mixed.windows.now sums.now.mixed.kinds.now sums.now.mixed.ring.weights.now) (length tops.now) tops.now sides.entry.lists.front.now sides.entry.lists.back.now from to result }
+    ensures { LeastPassing (passes sums.now.mixed) (length tops.now) tops.now sides.entry.lists.front.now sides.entry.lists.back.now from to result }
 {
     let mut found = to;
     for &top in tops {
