@@ -11,7 +11,7 @@ use Rattle.halves.specs.Half.{Half, Wanted}
 use Rattle.halves.specs.Next.{Allowed, Filled, Next}
 use Rattle.halves.specs.Entries.{before, half_of}
 use Rattle.halves.specs.declared.filled.Halves.{Halves}
-use Rattle.halves.proofs.Joining.{Held, Joined, apart, first_of, held, joined, least_of, tops_low}
+use Rattle.halves.proofs.Joining.{Entry, Held, Joined, apart, back_entry, first_of, front_entry, held, joined, least_of, top_entry, tops_low}
 use Rattle.halves.proofs.RoomParts.{half_whole}
 
 module _ (ws : List ℕ) (vs : List Way) (s : Halves) (few : length ws ≤ 24) (paired : length vs ≡ length ws) (light : (i : ℕ) → get_or ws i 0 ≤ 1000000) (f : Filled ws vs s) where
@@ -32,6 +32,16 @@ module _ (ws : List ℕ) (vs : List Way) (s : Halves) (few : length ws ≤ 24) (
 
   pub asked_apart : Apart (take s.top s.tops) s.lists.front.now s.lists.back.now
   asked_apart = apart s.bounds ws vs few paired light _ _ three _ _ _ tops_whole f.front f.back
+
+  -- each entry is some choice's
+  pub asked_top : (i : ℕ) → i < length (take s.top s.tops) → Entry ws vs 0 (before (length ws)) (get_or (take s.top s.tops) i 0)
+  asked_top = top_entry s.bounds ws vs few paired light _ _ three _ _ _ tops_whole f.front f.back
+
+  pub asked_front : (p : ℕ) → p < length s.lists.front.now → Entry ws vs (before (length ws)) (half_of (length ws)) (get_or s.lists.front.now p 0)
+  asked_front = front_entry s.bounds ws vs few paired light _ _ three _ _ _ tops_whole f.front f.back
+
+  pub asked_back : (q : ℕ) → q < length s.lists.back.now → Entry ws vs (before (length ws) + half_of (length ws)) (half_of (length ws)) (get_or s.lists.back.now q 0)
+  asked_back = back_entry s.bounds ws vs few paired light _ _ three _ _ _ tops_whole f.front f.back
 
   -- any top and entries make a choice, and each wanted choice has some
   pub asked_joined : (i p q : ℕ) → i < length (take s.top s.tops) → p < length s.lists.front.now → q < length s.lists.back.now → Joined ws vs (take s.top s.tops) s.lists.front.now s.lists.back.now i p q

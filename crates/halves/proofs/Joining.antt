@@ -108,13 +108,13 @@ module _
     (lim : Bounds) (ws : List ℕ) (vs : List Way) (few : length ws ≤ 24) (paired : length vs ≡ length ws) (light : (i : ℕ) → get_or ws i 0 ≤ 1000000) (t h : ℕ) (three : length ws ≡ t + (h + h)) (ts fs bs : List ℕ)
     (tops : Half lim ws vs 0 t ts (length ts)) (front : Half lim ws vs t h fs (length fs)) (back : Half lim ws vs (t + h) h bs (length bs))
   where
-    top_entry : (i : ℕ) → i < length ts → Entry ws vs 0 t (get_or ts i 0)
+    pub top_entry : (i : ℕ) → i < length ts → Entry ws vs 0 t (get_or ts i 0)
     top_entry = entry lim ws vs few paired light 0 t ts (length ts) (omega arith) tops
 
-    front_entry : (p : ℕ) → p < length fs → Entry ws vs t h (get_or fs p 0)
+    pub front_entry : (p : ℕ) → p < length fs → Entry ws vs t h (get_or fs p 0)
     front_entry = entry lim ws vs few paired light t h fs (length fs) (omega arith) front
 
-    back_entry : (q : ℕ) → q < length bs → Entry ws vs (t + h) h (get_or bs q 0)
+    pub back_entry : (q : ℕ) → q < length bs → Entry ws vs (t + h) h (get_or bs q 0)
     back_entry = entry lim ws vs few paired light (t + h) h bs (length bs) (omega arith) back
 
     pub tops_low : (i : ℕ) → i < length ts → get_or ts i 0 < 2 ^ 62

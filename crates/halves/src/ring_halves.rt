@@ -20,8 +20,9 @@ pub struct RingHalves<'a> {
     ghost filled: { ∥ FilledFor ring.rule ring.weights.now ring.ages.now halves ∥₁ },
 }
 
-/// Fills a lent room with the choices that fit a ring's rule. The room has at least [`room_for`](crate::room_for) entries for the
-/// ring's pans, and stays lent.
+/// Fills a lent room with the choices that fit a ring's rule.
+///
+/// The room has at least [`room_for`](crate::room_for) entries for the ring's pans, and stays lent.
 pub fn fill_for<'a>(ring: Ring, room: &'a mut [u64]) -> Halves<'a>
     requires { room_for (length ring.weights.now) ≤ length room.old }
     ensures { FilledFor ring.entry.rule ring.entry.weights.now ring.entry.ages.now result }

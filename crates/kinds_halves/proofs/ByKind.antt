@@ -6,8 +6,8 @@ use Rattle.std.proofs.lemmas.Bool.Decides.{nat_tests}
 use Rattle.std.proofs.lemmas.Grind.{get_or-set_at}
 use Rattle.std.proofs.lemmas.List.{get_or-set_other, length-set}
 use Rattle.choices.specs.Choice.{Choice, weight_of, opened}
-use Rattle.choices.specs.Numbered.{choice_of, odd}
-use Rattle.choices.proofs.Blocks.{sum_apart}
+use Rattle.choices.specs.Numbered.{Opens, choice_of, odd}
+use Rattle.choices.proofs.Blocks.{opens_weight, sum_apart}
 use Rattle.choices.proofs.Choices.{opened_le, weight_le}
 use Rattle.choices.proofs.Numbers.{length_choice_of}
 use Rattle.kinds.specs.Kinds.{weight_of_kind}
@@ -104,3 +104,7 @@ module _ (ks ws : List ℕ) (paired : length ks ≡ length ws) (x i b : ℕ) (l 
   sums_fit sums light few known h =
       let k = get_or ks i 0 in
       omega (arith, h.whole k known, next_pan k, gain_same (x / 2 ^ b) k k (get_or ws i 0) refl, kind_fits k ks ws x light few)
+
+-- each kind has no more in a choice than in one that opens all that it opens
+pub kind_opens : (k : ℕ) (ks ws : List ℕ) (n a b : ℕ) → Opens a b → weight_of_kind k ks ws (choice_of n a) ≤ weight_of_kind k ks ws (choice_of n b)
+kind_opens k ks ws n a b h = rw (of_kind_weighs k ks ws (choice_of n a), of_kind_weighs k ks ws (choice_of n b)) (opens_weight (of_kind k ks ws) n a b h)

@@ -2,4 +2,6 @@
 mod ByKind
 mod Groups
 mod Walking
+mod Skipping
+mod Clearing
 mod Mixing

@@ -1,8 +1,10 @@
 -- What a walk over two sorted lists keeps from turn to turn, and what it finds beside each top.
-use Rattle.std.proofs.Common.{◌≡◌, ℕ, ◌+◌, ◌-◌, ◌<◌, ◌≤◌, Bool, true, false, List, length, get_or, ⊎_elim, refl, ap, arith}
+use Rattle.std.proofs.Common.{◌≡◌, ℕ, ◌+◌, ◌-◌, ◌<◌, ◌≤◌, Bool, true, false, List, length, get_or, ⊎_elim, refl, ap, arith, ◌*◌, ◌/◌, ◌%◌, ◌^◌, ◌∙◌, sym, add-mul}
+use Rattle.std.proofs.Math.Nat.{mod-add-div', mul-mod_left}
 use Rattle.std.proofs.lemmas.Bool.{both_ways, cases_eq, cases_lt}
 use Rattle.halves_growth.specs.Entries.{Rises}
 use Rattle.halves_sweeps.specs.Sweep.{Triple}
+use Rattle.kinds_halves.specs.Passing.{Useless}
 use Rattle.kinds_halves.specs.Walk.{Beside, FirstPassing, LeastPassing, Passing, Reached}
 
 -- none of the back list's entries from `at` to q passes
@@ -45,6 +47,25 @@ module _ (ok : ℕ → Bool) (top front : ℕ) (bs : List ℕ) (rises : Rises bs
         later = omega (arith, h.later);
         none = λ j a m. ⊎_elim (λ b. h.none j a b) (λ b. let same : j ≡ q = omega arith in rw same e) (cases_lt j q);
       }
+
+-- where nothing can pass, whatever the entry of the back list, none does
+pub first_useless :
+    (ok : ℕ → Bool) (top front : ℕ) (bs : List ℕ) (free at to : ℕ) → ((q : ℕ) → q < length bs → get_or bs q 0 % 2 ^ 24 < 2 ^ free) → Useless ok (top + front) free → FirstPassing ok top front bs at to to
+first_useless ok top front bs free at to shut h =
+    record {
+      high = omega arith;
+      least = λ q a l e.
+          let same : top + front + get_or bs q 0 ≡ top + (front + get_or bs q 0) = omega arith in
+          absurd (both_ways (ok (top + (front + get_or bs q 0))) (rw same at (h (get_or bs q 0) (shut q l))) e);
+      found = λ b. absurd (omega arith);
+    }
+
+-- a top and an entry of the front list that have no bit for the last pans have none together
+pub clear_both : (x y free : ℕ) → x % 2 ^ free ≡ 0 → y % 2 ^ free ≡ 0 → (x + y) % 2 ^ free ≡ 0
+clear_both x y free a b =
+    let F = 2 ^ free in
+    let e : (x / F + y / F) * F ≡ x + y = omega (arith, mod-add-div' x F, mod-add-div' y F, a, b, add-mul (x / F) (y / F) F) in
+    ap (λ (k : ℕ). k % F) (sym e) ∙ mul-mod_left (x / F + y / F) F
 
 -- the front list's entries from `left` on are settled, and beside the others the back list's before `at` are too small
 pub record Stair (ok : ℕ → Bool) (top : ℕ) (fs bs : List ℕ) (from to left at x : ℕ) : Type 0 where

@@ -3,6 +3,7 @@
 
 mod answer;
 mod row;
+mod sides;
 mod sums;
 mod walk;
 

@@ -1,7 +1,7 @@
 //! The sums of a top and an entry of the front list with the entries of the back list.
 ghost use Rattle.kinds_halves.specs.Passing.{passes};
 ghost use Rattle.kinds_halves.specs.Walk.{FirstPassing, Reached};
-ghost use Rattle.std.specs.Prelude.{◌≡◌, ℕ, ◌+◌, ◌^◌, ◌<◌, ◌≤◌, length, slice_index};
+ghost use Rattle.std.specs.Prelude.{◌≡◌, ℕ, ◌+◌, ◌%◌, ◌^◌, ◌<◌, ◌≤◌, length, slice_index};
 ghost use Rattle.halves_growth.specs.Entries.{Rises};
 
 use crate::sums::Sums;
@@ -15,9 +15,13 @@ pub struct Row<'a> {
     pub front: u64,
     /// The sorted places of the back half's choices.
     pub back: &'a [u64],
+    /// How many pans the back half has: the last ones of the ring.
+    pub free: usize,
     ghost rises: { Rises back.now (length back.now) },
     ghost top_low: { top < 2 ^ 62 },
     ghost front_low: { front < 2 ^ 62 },
+    ghost clear: { (top + front) % 2 ^ free ≡ 0 },
+    ghost shut: { (q : ℕ) → q < length back.now → slice_index back.now q % 2 ^ 24 < 2 ^ free },
     ghost back_low: { (q : ℕ) → q < length back.now → slice_index back.now q < 2 ^ 62 },
 }
 
@@ -43,8 +47,15 @@ impl<'a> Row<'a> {
 
     /// The least sum that passes, of the entries of the back list from `at` on, below `to`; `to` where there is none.
     pub fn first(self, sums: &Sums, at: usize, to: u64) -> u64
-        ensures { FirstPassing (passes sums.now.mixed.ring.rule.pans sums.now.mixed.windows.now sums.now.mixed.kinds.now sums.now.mixed.ring.weights.now) self.entry.top self.entry.front self.entry.back.now at to result }
+        requires { self.free ≤ length sums.now.mixed.ring.weights.now }
+        ensures { FirstPassing (passes sums.now.mixed) self.entry.top self.entry.front self.entry.back.now at to result }
     {
+        if at < self.back.len()
+            && self.sum(at) < to
+            && sums.useless(self.top + self.front, self.free)
+        {
+            return to;
+        }
         for q in at..self.back.len() {
             let sum = self.sum(q);
             if sum >= to {

@@ -4,9 +4,7 @@ use Rattle.kinds_halves.proofs.Walking.{Stair}
 use Rattle.kinds_halves.proofs.walk.beside.Given as goal
 
 abbrev pub invariant-loop-left : goal.invariant-loop-left
-invariant-loop-left l =
-    let m = l.sums.mixed in
-    Stair (passes m.ring.rule.pans m.windows.now m.kinds.now m.ring.weights.now) l.top l.lists.front.now l.lists.back.now l.from l.to l.left l.at l.found
+invariant-loop-left l = Stair (passes l.sums.mixed) l.top l.sides.lists.front.now l.sides.lists.back.now l.from l.to l.left l.at l.found
 
 abbrev pub decreases-loop-left : goal.decreases-loop-left
 decreases-loop-left l = l.left

@@ -4,6 +4,4 @@ use Rattle.kinds_halves.specs.Walk.{LeastPassing}
 use Rattle.kinds_halves.proofs.walk.least.Given as goal
 
 abbrev pub invariant-loop-top : goal.invariant-loop-top
-invariant-loop-top l =
-    let m = l.sums.mixed in
-    LeastPassing (passes m.ring.rule.pans m.windows.now m.kinds.now m.ring.weights.now) l.top-index l.tops l.lists.front.now l.lists.back.now l.from l.to l.found
+invariant-loop-top l = LeastPassing (passes l.sums.mixed) l.top-index l.tops l.sides.lists.front.now l.sides.lists.back.now l.from l.to l.found
