@@ -1,0 +1,7 @@
+-- The lemmas that several proofs share.
+pub mod Sums
+pub mod OnKinds
+pub mod Taking
+pub mod Filling
+pub mod Lowering
+pub mod Mixes
