@@ -4,4 +4,6 @@ pub mod OnKinds
 pub mod Taking
 pub mod Filling
 pub mod Lowering
+pub mod Laying
+pub mod Joining
 pub mod Mixes

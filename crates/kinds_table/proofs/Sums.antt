@@ -1,8 +1,8 @@
 -- Least costs, and least sums of two rows' costs.
-use Rattle.std.proofs.Common.{◌≡◌, ℕ, suc, ◌+◌, ◌-◌, ◌<◌, ◌≤◌, min, ◌⊎◌, inl, inr, sym, refl, ◌∙◌, arith}
+use Rattle.std.proofs.Common.{◌≡◌, ℕ, zero, suc, ◌+◌, ◌-◌, ◌<◌, ◌≤◌, min, ◌⊎◌, List, [], ◌∷◌, length, get_or, inl, inr, sym, refl, ◌∙◌, arith}
 use Rattle.std.proofs.lemmas.Bool.{cases_lt, cases_eq}
 use Rattle.kinds_table.specs.Costs.{never, Least}
-use Rattle.kinds_table.specs.Rows.{Sum}
+use Rattle.kinds_table.specs.Rows.{Sum, cost_in}
 
 -- y is the least sum with the first n costs of the one row
 abbrev pub SumSoFar : ℕ → (one other : ℕ → ℕ) → (x y : ℕ) → Type 0
@@ -53,3 +53,14 @@ all_so_far n one other x y h none = record { cap = h.cap; low = λ v g. low v g 
     low : (v : ℕ) → v ≤ x → (v < n) ⊎ (n ≤ v) → y ≤ one v + other (x - v)
     low v g (inl a) = h.low v (g, a)
     low v g (inr a) = omega (arith, h.cap, none v a g)
+
+-- a row's costs, and what stands past its end
+pub cost_at : (row : List ℕ) (v : ℕ) → v < length row → cost_in row v ≡ get_or row v 0
+cost_at [] v l = absurd (omega arith)
+cost_at (y ∷ row) zero l = refl
+cost_at (y ∷ row) (suc v) l = cost_at row v (omega arith)
+
+pub cost_past : (row : List ℕ) (v : ℕ) → length row ≤ v → cost_in row v ≡ never
+cost_past [] v l = refl
+cost_past (y ∷ row) zero l = absurd (omega arith)
+cost_past (y ∷ row) (suc v) l = cost_past row v (omega arith)
