@@ -50,15 +50,13 @@ module _ (l : Lot) (least most : List ℕ) where
   least_weight (suc k) cs h = omega (arith, least_weight k cs (λ j b. h j (omega arith)), h k (omega arith), on_next k l.kinds l.weights cs)
 
   -- one kind more: its row, from the least weight of the kind to the most
-  module _ (k span : ℕ) (one other row : ℕ → ℕ)
+  module _ (k span : ℕ) (one other : ℕ → ℕ)
       (kinds : (v : ℕ) → get_or least k 0 + v ≤ get_or most k 0 → Least (Makes (is k) l (get_or least k 0 + v)) (cost (is k) l) (one v))
       (past : (v : ℕ) → get_or most k 0 < get_or least k 0 + v → never ≤ one v)
-      (h : Joined k l least most span other) (sums : (x : ℕ) → x ≤ span → Sum one other x (row x)) where
-    base : ℕ
-    base = sum_below (λ (j : ℕ). get_or least j 0) k
-
-    low : (x : ℕ) → x ≤ span → (cs : Choice) → Mixing (suc k) l least most (sum_below (λ (j : ℕ). get_or least j 0) (suc k) + x) cs → row x ≤ cost (below (suc k)) l cs
-    low x in' cs m =
+      (h : Joined k l least most span other) where
+    -- a choice costs no less than some cost of this kind and some of the kinds before
+    pub splits : (x : ℕ) → x ≤ span → (cs : Choice) → Mixing (suc k) l least most (sum_below (λ (j : ℕ). get_or least j 0) (suc k) + x) cs → (v : ℕ) × (v ≤ x) × (one v + other (x - v) ≤ cost (below (suc k)) l cs)
+    splits x in' cs m =
         let b = on_next k l.kinds l.weights cs in
         let e = least_weight k cs (λ j d. m.enough j (omega arith)) in
         let own = on_kinds (is k) l.kinds l.weights cs in
@@ -74,7 +72,7 @@ module _ (l : Lot) (least most : List ℕ) where
           enough = λ j d. m.enough j (omega arith);
           within = λ j d. m.within j (omega arith);
         }) in
-        omega (arith, one-is, other-is, (sums x in').low v (omega arith), on_next k l.kinds (gains (length l.weights)) cs)
+        (v, omega arith, omega (arith, one-is, other-is, on_next k l.kinds (gains (length l.weights)) cs))
 
     -- a choice of the kinds before, and one of this kind, put together
     module _ (u v : ℕ) (cs ds : Choice) (c : Mixing k l least most (sum_below (λ (j : ℕ). get_or least j 0) k + u) cs) (d : Makes (is k) l (get_or least k 0 + v) ds) (in' : get_or least k 0 + v ≤ get_or most k 0) where
@@ -133,14 +131,15 @@ module _ (l : Lot) (least most : List ℕ) where
       costs : cost (below (suc k)) l es ≡ cost (below k) l cs + cost (is k) l ds
       costs = omega (arith, on_next k l.kinds (gains (length l.weights)) es, keeps (gains (length l.weights)), takes (gains (length l.weights)))
 
-    some : (x : ℕ) → x ≤ span → row x < never → (cs : Choice) × Mixing (suc k) l least most (sum_below (λ (j : ℕ). get_or least j 0) (suc k) + x) cs × (cost (below (suc k)) l cs ≡ row x)
-    some x low' l' = at ((sums x low').some l')
+    -- the least sum is some choice's cost
+    pub chosen : (x y : ℕ) → x ≤ span → Sum one other x y → y < never → (cs : Choice) × Mixing (suc k) l least most (sum_below (λ (j : ℕ). get_or least j 0) (suc k) + x) cs × (cost (below (suc k)) l cs ≡ y)
+    chosen x y low s l' = at (s.some l')
       where
-        at : (v : ℕ) × (v ≤ x) × (one v + other (x - v) ≡ row x) → (cs : Choice) × Mixing (suc k) l least most (sum_below (λ (j : ℕ). get_or least j 0) (suc k) + x) cs × (cost (below (suc k)) l cs ≡ row x)
+        at : (v : ℕ) × (v ≤ x) × (one v + other (x - v) ≡ y) → (cs : Choice) × Mixing (suc k) l least most (sum_below (λ (j : ℕ). get_or least j 0) (suc k) + x) cs × (cost (below (suc k)) l cs ≡ y)
         at (v, in', e) = with-kind (cases_lt (get_or most k 0) (get_or least k 0 + v))
           where
             with-kind : (get_or most k 0 < get_or least k 0 + v) ⊎ (get_or least k 0 + v ≤ get_or most k 0) →
-                (cs : Choice) × Mixing (suc k) l least most (sum_below (λ (j : ℕ). get_or least j 0) (suc k) + x) cs × (cost (below (suc k)) l cs ≡ row x)
+                (cs : Choice) × Mixing (suc k) l least most (sum_below (λ (j : ℕ). get_or least j 0) (suc k) + x) cs × (cost (below (suc k)) l cs ≡ y)
             with-kind (inl over) = absurd (omega (arith, past v over))
             with-kind (inr fine) =
                 let d = (kinds v fine).some (omega arith) in
@@ -148,5 +147,7 @@ module _ (l : Lot) (least most : List ℕ) where
                 let f : x - v + v ≡ x = omega arith in
                 (es (x - v) v c.0 d.0 c.1 d.1 fine, rw f at (mixed (x - v) v c.0 d.0 c.1 d.1 fine), costs (x - v) v c.0 d.0 c.1 d.1 fine ∙ omega (arith, c.2, d.2))
 
-    pub joined_next : Joined (suc k) l least most span row
-    joined_next x in' = record { cap = (sums x in').cap; low = low x in'; some = some x in' }
+    pub joined_next : (row : ℕ → ℕ) → ((x : ℕ) → x ≤ span → Sum one other x (row x)) → Joined (suc k) l least most span row
+    joined_next row sums x in' =
+        let s = sums x in' in
+        record { cap = s.cap; low = λ cs m. let t = splits x in' cs m in omega (arith, s.low t.0 t.1, t.2); some = chosen x (row x) in' s }

@@ -6,4 +6,6 @@ pub mod Filling
 pub mod Lowering
 pub mod Laying
 pub mod Joining
+pub mod Together
+pub mod Clipping
 pub mod Mixes

@@ -9,8 +9,8 @@
 --   Joined       the row of joined kinds holds the least cost for each weight, counted from the least that they all weigh
 --   cost_in      a row's cost at v; `never` past its end
 --   Sum          y is the least sum of a cost of one row and a cost of another, x further on together
---   FirstAt      x is the first weight from `start` to `span` whose cost is below a limit
---   First        that weight with its cost; None: there is none
+--   FirstAt      the first x from `start` to `span` whose least sum is below a limit, with this sum
+--   First        the same; None: there is no such x
 use Rattle.std.specs.Prelude.{◌≡◌, ℕ, zero, suc, ◌+◌, ◌-◌, ◌*◌, ◌/◌, ◌<◌, ◌≤◌, List, Some, None, Option, slice_index, slice_index_or, nat_le, if◌then◌else◌}
 use Rattle.choices.specs.Choice.{Choice}
 use Rattle.kinds_table.specs.Costs.{never, Lot, on_kinds, is, below, cost, Makes, Least}
@@ -48,13 +48,13 @@ cost_in row v = slice_index_or row v never
 abbrev pub Sum : (one other : ℕ → ℕ) → (x y : ℕ) → Type 0
 Sum one other x y = Least (λ v. v ≤ x) (λ v. one v + other (x - v)) y
 
-pub record FirstAt (sum : (x y : ℕ) → Type 0) (start span limit : ℕ) (r : Reached) : Type 0 where
+pub record FirstAt (one other : ℕ → ℕ) (start span limit : ℕ) (r : Reached) : Type 0 where
   pub enough : start ≤ r.over
   pub within : r.over ≤ span
-  pub costs : sum r.over r.cost
+  pub costs : Sum one other r.over r.cost
   pub few : r.cost < limit
-  pub lighter : (x : ℕ) → start ≤ x → x < r.over → (y : ℕ) → sum x y → limit ≤ y
+  pub lighter : (x v : ℕ) → start ≤ x → x < r.over → v ≤ x → limit ≤ one v + other (x - v)
 
-abbrev pub First : (sum : (x y : ℕ) → Type 0) → (start span limit : ℕ) → Option Reached → Type 0
-First sum start span limit None = (x : ℕ) → start ≤ x → x ≤ span → (y : ℕ) → sum x y → limit ≤ y
-First sum start span limit (Some r) = FirstAt sum start span limit r
+abbrev pub First : (one other : ℕ → ℕ) → (start span limit : ℕ) → Option Reached → Type 0
+First one other start span limit None = (x v : ℕ) → start ≤ x → x ≤ span → v ≤ x → limit ≤ one v + other (x - v)
+First one other start span limit (Some r) = FirstAt one other start span limit r

@@ -34,7 +34,7 @@ pub fn lightest(
 ) -> Option<Reached>
     requires room { span < length joined.now }
     requires capped { Capped row.now × Capped joined.now }
-    ensures { First (Sum (cost_in row.now) (slice_index joined.now)) from span limit result }
+    ensures { First (cost_in row.now) (slice_index joined.now) from span limit result }
 {
     for over in from..span + 1 {
         let cost = least_sum(row, joined, over);
