@@ -9,7 +9,7 @@ use Rattle.kinds.specs.declared.mixed.Window.{Window}
 use Rattle.kinds_table.specs.Costs.{on_kinds, is, below}
 use Rattle.kinds_table.specs.Rows.{sum_below}
 use Rattle.order.specs.Order.{NoneOf}
-use Rattle.kinds_table.specs.Plans.{shut, Laid, Plans, wide_of}
+use Rattle.kinds_table.specs.Plans.{shut, Cut, Laid, Plans, wide_of}
 use Rattle.kinds_table.specs.declared.plan.Plan.{Plan}
 use Rattle.kinds_table.proofs.OnKinds.{on_next, on_none, on_all, on_is}
 
@@ -20,19 +20,19 @@ sum_le f g (suc n) h = omega (arith, sum_le f g n (λ k l. h k (omega arith)), h
 
 pub sum_but : (f g : ℕ → ℕ) (n i : ℕ) → i < n → ((k : ℕ) → k < n → f k ≤ g k) → sum_below f n + g i ≤ sum_below g n + f i
 sum_but f g zero i l h = absurd (omega arith)
-sum_but f g (suc n) i l h = at (cases_lt i n)
-  where
-    at : (i < n) ⊎ (n ≤ i) → sum_below f (suc n) + g i ≤ sum_below g (suc n) + f i
-    at (inl m) = omega (arith, sum_but f g n i m (λ k b. h k (omega arith)), h n (omega arith))
-    at (inr m) = let e : i ≡ n = omega arith in rw e (omega (arith, sum_le f g n (λ k b. h k (omega arith))))
+sum_but f g (suc n) i l h =
+    elim (cases_lt i n) [
+      | inl m ↦ omega (arith, sum_but f g n i m (λ k b. h k (omega arith)), h n (omega arith))
+      | inr m ↦ let e : i ≡ n = omega arith in rw e (omega (arith, sum_le f g n (λ k b. h k (omega arith))))
+    ]
 
 pub sum_at : (f : ℕ → ℕ) (n i : ℕ) → i < n → f i ≤ sum_below f n
 sum_at f zero i l = absurd (omega arith)
-sum_at f (suc n) i l = at (cases_lt i n)
-  where
-    at : (i < n) ⊎ (n ≤ i) → f i ≤ sum_below f (suc n)
-    at (inl m) = omega (arith, sum_at f n i m)
-    at (inr m) = let e : i ≡ n = omega arith in rw e (omega arith)
+sum_at f (suc n) i l =
+    elim (cases_lt i n) [
+      | inl m ↦ omega (arith, sum_at f n i m)
+      | inr m ↦ let e : i ≡ n = omega arith in rw e (omega arith)
+    ]
 
 -- ---- the windows as facts
 pub in_windows_at :
@@ -87,7 +87,7 @@ module _ (r : Rule) (vs : List Window) (ks ws as' : List ℕ) (paired : length k
   pub clip_most : (k : ℕ) → k < length vs → weight_of_kind k ks ws cs ≤ min (get_or vs k shut).most (r.target + r.above - (sum_below (λ (j : ℕ). (get_or vs j shut).least) (length vs) - (get_or vs k shut).least))
   clip_most k l =
       let f = fitting r ws as' cs mixed.0 in
-      omega (arith, f.within, whole_weight, window k l, sum_but (λ (j : ℕ). (get_or vs j shut).least) (λ (j : ℕ). weight_of_kind j ks ws cs) (length vs) k l (λ j b. (window j b).0))
+      omega (arith, f.within, whole_weight, window k l, sum_at (λ (j : ℕ). (get_or vs j shut).least) (length vs) k l, sum_but (λ (j : ℕ). (get_or vs j shut).least) (λ (j : ℕ). weight_of_kind j ks ws cs) (length vs) k l (λ j b. (window j b).0))
 
   -- the leasts of all kinds together are no more than the choice weighs
   pub clip_base : (least : ℕ → ℕ) → ((k : ℕ) → k < length vs → least k ≤ weight_of_kind k ks ws cs) → sum_below least (length vs) ≤ r.target + r.above
@@ -99,9 +99,7 @@ module _ (r : Rule) (vs : List Window) (ks ws as' : List ℕ) (paired : length k
 module _ (r : Rule) (vs : List Window) (ks ws as' : List ℕ) (paired : length ks ≡ length ws) (known : (i : ℕ) → get_or ks i 0 < length vs)
     (some : 1 ≤ length vs) (few : length vs ≤ 4) (low : r.target + r.above ≤ 50000000) (p : Plan) (kinds : p.kinds ≡ length vs) (span : p.base + p.span ≡ r.target + r.above)
     (wide : p.wide ≡ wide_of (r.target + r.above)) (base : p.base ≡ sum_below (λ (k : ℕ). get_or p.least k 0) p.kinds) (fine : (k : ℕ) → k < p.kinds → get_or p.least k 0 ≤ get_or p.most k 0)
-    (least : (k : ℕ) → k < length vs → get_or p.least k 0 ≡ max (get_or vs k shut).least (r.target - (sum_below (λ (j : ℕ). (get_or vs j shut).most) (length vs) - (get_or vs k shut).most)))
-    (most : (k : ℕ) → k < length vs → get_or p.most k 0 ≡ min (get_or vs k shut).most (r.target + r.above - (sum_below (λ (j : ℕ). (get_or vs j shut).least) (length vs) - (get_or vs k shut).least)))
-    (no-least : (k : ℕ) → length vs ≤ k → get_or p.least k 0 ≡ 0) (no-most : (k : ℕ) → length vs ≤ k → get_or p.most k 0 ≡ 0) where
+    (cut : Cut r vs p.least p.most) where
   pub plans_of : Plans r vs ks ws as' p
   plans_of =
       record {
@@ -116,23 +114,21 @@ module _ (r : Rule) (vs : List Window) (ks ws as' : List ℕ) (paired : length k
         };
         kinds = kinds;
         span = span;
-        no_less = λ k l. omega (arith, least k (omega (arith, kinds)));
-        no_more = λ k l. omega (arith, most k (omega (arith, kinds)));
-        enough = λ cs h k l. omega (arith, least k (omega (arith, kinds)), clip_least r vs ks ws as' paired known cs h k (omega (arith, kinds)));
-        within = λ cs h k l. omega (arith, most k (omega (arith, kinds)), clip_most r vs ks ws as' paired known cs h k (omega (arith, kinds)));
+        no_less = λ k l. omega (arith, cut.least k (omega (arith, kinds)));
+        no_more = λ k l. omega (arith, cut.most k (omega (arith, kinds)));
+        enough = λ cs h k l. omega (arith, cut.least k (omega (arith, kinds)), clip_least r vs ks ws as' paired known cs h k (omega (arith, kinds)));
+        within = λ cs h k l. omega (arith, cut.most k (omega (arith, kinds)), clip_most r vs ks ws as' paired known cs h k (omega (arith, kinds)));
       }
     where
       in-order : (k : ℕ) → (k < length vs) ⊎ (length vs ≤ k) → get_or p.least k 0 ≤ get_or p.most k 0
       in-order k (inl l) = fine k (omega (arith, kinds))
-      in-order k (inr l) = omega (arith, no-least k l)
+      in-order k (inr l) = omega (arith, cut.no_least k l)
 
       top : (k : ℕ) → (k < length vs) ⊎ (length vs ≤ k) → get_or p.most k 0 ≤ p.base + p.span
-      top k (inl l) = omega (arith, most k l, span)
-      top k (inr l) = omega (arith, no-most k l)
+      top k (inl l) = omega (arith, cut.most k l, span)
+      top k (inr l) = omega (arith, cut.no_most k l)
 
-module _ (r : Rule) (vs : List Window) (ks ws as' : List ℕ) (paired : length ks ≡ length ws) (known : (i : ℕ) → get_or ks i 0 < length vs) (f g : ℕ → ℕ)
-    (least : (k : ℕ) → k < length vs → f k ≡ max (get_or vs k shut).least (r.target - (sum_below (λ (j : ℕ). (get_or vs j shut).most) (length vs) - (get_or vs k shut).most)))
-    (most : (k : ℕ) → k < length vs → g k ≡ min (get_or vs k shut).most (r.target + r.above - (sum_below (λ (j : ℕ). (get_or vs j shut).least) (length vs) - (get_or vs k shut).least))) where
+module _ (r : Rule) (vs : List Window) (ks ws as' : List ℕ) (paired : length ks ≡ length ws) (known : (i : ℕ) → get_or ks i 0 < length vs) (f g : List ℕ) (cut : Cut r vs f g) where
   never_mixes : ((cs : Choice) → mixes r vs ks ws as' cs ≡ true → ⊥) → NoneOf (mixes r vs ks ws as')
   never_mixes h cs = at (mixes r vs ks ws as' cs) refl
     where
@@ -140,8 +136,8 @@ module _ (r : Rule) (vs : List Window) (ks ws as' : List ℕ) (paired : length k
       at true e = absurd (h cs e)
       at false e = refl
 
-  pub none_kind : (k : ℕ) → k < length vs → g k < f k → NoneOf (mixes r vs ks ws as')
-  none_kind k l bad = never_mixes (λ cs h. omega (arith, least k l, most k l, clip_least r vs ks ws as' paired known cs h k l, clip_most r vs ks ws as' paired known cs h k l))
+  pub none_kind : (k : ℕ) → k < length vs → get_or g k 0 < get_or f k 0 → NoneOf (mixes r vs ks ws as')
+  none_kind k l bad = never_mixes (λ cs h. omega (arith, cut.least k l, cut.most k l, clip_least r vs ks ws as' paired known cs h k l, clip_most r vs ks ws as' paired known cs h k l))
 
-  pub none_base : r.target + r.above < sum_below f (length vs) → NoneOf (mixes r vs ks ws as')
-  none_base bad = never_mixes (λ cs h. let b = clip_base r vs ks ws as' paired known cs h f (λ k l. omega (arith, least k l, clip_least r vs ks ws as' paired known cs h k l)) in omega arith)
+  pub none_base : r.target + r.above < sum_below (λ (j : ℕ). get_or f j 0) (length vs) → NoneOf (mixes r vs ks ws as')
+  none_base bad = never_mixes (λ cs h. let b = clip_base r vs ks ws as' paired known cs h (λ (j : ℕ). get_or f j 0) (λ k l. omega (arith, cut.least k l, clip_least r vs ks ws as' paired known cs h k l)) in omega arith)

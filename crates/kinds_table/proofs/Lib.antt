@@ -8,4 +8,5 @@ pub mod Laying
 pub mod Joining
 pub mod Together
 pub mod Clipping
+pub mod Finding
 pub mod Mixes

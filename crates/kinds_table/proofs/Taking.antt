@@ -19,7 +19,7 @@ least_zero on old ks [] as' e =
     record {
       cap = omega arith;
       low = λ cs h. omega arith;
-      some = λ h. ([], record { whole = refl; does = law ks; weighs = nothing_on on ks []; }, nothing_on on ks []);
+      some = λ h. ([], record { whole = refl; does = law ks; weighs = nothing_on on ks [] }, nothing_on on ks []);
     }
   where
     law : (ks : List ℕ) → lawful on old ks [] as' [] ≡ true

@@ -3,13 +3,14 @@
 --   room_of      the words of room for so many kinds: a row for each, and one for each as they are joined
 --   lot_of       the pans of a ring whose pans have kinds
 --   shut         a window for nothing at all
+--   Cut          each kind's least and most weight: its window's, or what those of all others leave of the target and of the top
 --   BasedOn      b is the sum of the leasts of so many kinds, none of which is above its most
 --   Based        that sum; None: one is above its most
 --   Laid         what is known of a plan by itself
 --   Plans        the plan lets each kind weigh no less and no more than its window does, and leaves out no weight that a
 --                choice may have that fits and has so much of each kind
 --   Planned      such a plan; None: no such choice
-use Rattle.std.specs.Prelude.{◌≡◌, ℕ, ◌+◌, ◌*◌, ◌/◌, ◌<◌, ◌≤◌, true, false, List, length, Some, None, Option, slice_index, slice_index_or}
+use Rattle.std.specs.Prelude.{◌≡◌, ℕ, ◌+◌, ◌-◌, ◌*◌, ◌/◌, ◌^◌, ◌<◌, ◌≤◌, min, max, true, List, length, Some, None, Option, slice_index, slice_index_or}
 use Rattle.choices.specs.Choice.{Choice}
 use Rattle.order.specs.Order.{NoneOf}
 use Rattle.choices.specs.declared.rule.Rule.{Rule}
@@ -30,6 +31,14 @@ lot_of r ks ws as' = record { old = r.age; kinds = ks; weights = ws; ages = as' 
 
 abbrev pub shut : Window
 shut = record { least = 0; most = 0 }
+
+pub record Cut (r : Rule) (vs : List Window) (lows tops : List ℕ) : Type 0 where
+  pub least : (k : ℕ) → k < length vs → slice_index lows k ≡ max (slice_index_or vs k shut).least (r.target - (sum_below (λ j. (slice_index_or vs j shut).most) (length vs) - (slice_index_or vs k shut).most))
+  pub most : (k : ℕ) → k < length vs →
+      slice_index tops k ≡ min (slice_index_or vs k shut).most (r.target + r.above - (sum_below (λ j. (slice_index_or vs j shut).least) (length vs) - (slice_index_or vs k shut).least))
+  pub no_least : (k : ℕ) → length vs ≤ k → slice_index lows k ≡ 0
+  pub no_most : (k : ℕ) → length vs ≤ k → slice_index tops k ≡ 0
+  pub small : (k : ℕ) → slice_index lows k ≤ 2 ^ 32
 
 pub record BasedOn (least most : ℕ → ℕ) (kinds b : ℕ) : Type 0 where
   pub is : b ≡ sum_below least kinds

@@ -1,7 +1,7 @@
 //! What each kind may weigh, and how the rows lie in the lent room.
 ghost use Rattle.std.specs.Prelude.{◌≡◌, ℕ, ◌+◌, ◌-◌, ◌*◌, ◌^◌, ◌<◌, ◌≤◌, length, max, min, slice_index, slice_index_or};
 ghost use Rattle.kinds_table.specs.Rows.{sum_below};
-ghost use Rattle.kinds_table.specs.Plans.{Based, Laid, Planned, shut, wide_of};
+ghost use Rattle.kinds_table.specs.Plans.{Based, Cut, Laid, Planned, shut, wide_of};
 
 use crate::blocks::BLOCK;
 use kinds::{KINDS, MixedRing, Window};
@@ -52,38 +52,59 @@ fn totalled(windows: &[Window]) -> Totals
     all
 }
 
-// The least that a kind may weigh: its window's, or what the most of all others leaves of the target.
-fn least_of(windows: &[Window], all: Totals, target: usize, kind: usize) -> usize
-    ensures known { kind < length windows.now → result ≡ max (slice_index_or windows.now kind shut).least (target - (all.most - (slice_index_or windows.now kind shut).most)) }
-    ensures others { length windows.now ≤ kind → result ≡ 0 }
+// The least that a kind may weigh: its window's, or what the most of all others leaves of the target. 0 past the last kind.
+fn least_of(mixed: MixedRing, all: Totals, kind: usize) -> usize
+    ensures known { kind < length mixed.entry.windows.now → result ≡ max (slice_index_or mixed.entry.windows.now kind shut).least (mixed.entry.ring.rule.target - (all.most - (slice_index_or mixed.entry.windows.now kind shut).most)) }
+    ensures others { length mixed.entry.windows.now ≤ kind → result ≡ 0 }
+    ensures small { result ≤ 2 ^ 32 }
 {
-    if kind < windows.len() {
-        let window = windows[kind];
+    if kind < mixed.windows.len() {
+        let window = mixed.windows[kind];
         let others = all.most.saturating_sub(window.most as usize);
-        (window.least as usize).max(target.saturating_sub(others))
+        let left = (mixed.ring.rule.target as usize).saturating_sub(others);
+        left.max(window.least as usize)
     } else {
         0
     }
 }
 
-// The most that a kind may weigh: its window's, or what the least of all others leaves of the top.
-fn most_of(windows: &[Window], all: Totals, top: usize, kind: usize) -> usize
-    ensures known { kind < length windows.now → result ≡ min (slice_index_or windows.now kind shut).most (top - (all.least - (slice_index_or windows.now kind shut).least)) }
-    ensures others { length windows.now ≤ kind → result ≡ 0 }
+// The most that a kind may weigh: its window's, or what the least of all others leaves of the top. 0 past the last kind.
+fn most_of(mixed: MixedRing, all: Totals, kind: usize) -> usize
+    ensures known { kind < length mixed.entry.windows.now → result ≡ min (slice_index_or mixed.entry.windows.now kind shut).most (mixed.entry.ring.rule.target + mixed.entry.ring.rule.above - (all.least - (slice_index_or mixed.entry.windows.now kind shut).least)) }
+    ensures others { length mixed.entry.windows.now ≤ kind → result ≡ 0 }
 {
-    if kind < windows.len() {
-        let window = windows[kind];
+    if kind < mixed.windows.len() {
+        let window = mixed.windows[kind];
         let others = all.least.saturating_sub(window.least as usize);
-        (window.most as usize).min(top.saturating_sub(others))
+        let top = mixed.ring.rule.target as usize + mixed.ring.rule.above as usize;
+        top.saturating_sub(others).min(window.most as usize)
     } else {
         0
+    }
+}
+
+// What each kind may weigh; 0 past the last kind.
+#[derive(Clone, Copy)]
+struct Limits {
+    least: [usize; KINDS],
+    most: [usize; KINDS],
+}
+
+// What each kind may weigh beside all others.
+fn cut(mixed: MixedRing) -> Limits
+    ensures { Cut mixed.entry.ring.rule mixed.entry.windows.now result.least result.most }
+{
+    let all = totalled(mixed.windows);
+    Limits {
+        least: array::from_fn(|kind| least_of(mixed, all, kind)),
+        most: array::from_fn(|kind| most_of(mixed, all, kind)),
     }
 }
 
 // What all kinds weigh at least; `None` where one may not weigh anything.
 fn base_of(least: &[usize; KINDS], most: &[usize; KINDS], kinds: usize) -> Option<usize>
     requires few { kinds ≤ 4 }
-    requires small { (k : ℕ) → slice_index least.now k ≤ 2 ^ 40 }
+    requires small { (k : ℕ) → slice_index least.now k ≤ 2 ^ 32 }
     ensures { Based (slice_index least.now) (slice_index most.now) kinds result }
 {
     let mut base = 0;
@@ -101,17 +122,9 @@ impl Plan {
     pub fn of(mixed: MixedRing) -> Option<Plan>
         ensures { Planned mixed.entry.ring.rule mixed.entry.windows.now mixed.entry.kinds.now mixed.entry.ring.weights.now mixed.entry.ring.ages.now result }
     {
-        let target = mixed.ring.rule.target as usize;
-        let top = target + mixed.ring.rule.above as usize;
+        let top = mixed.ring.rule.target as usize + mixed.ring.rule.above as usize;
         let kinds = mixed.windows.len();
-        let all = totalled(mixed.windows);
-        let least: [usize; KINDS] = array::from_fn(|kind| least_of(
-            mixed.windows,
-            all,
-            target,
-            kind,
-        ));
-        let most: [usize; KINDS] = array::from_fn(|kind| most_of(mixed.windows, all, top, kind));
+        let Limits { least, most } = cut(mixed);
         let base = base_of(&least, &most, kinds)?;
         let span = top.checked_sub(base)?;
         Some(Plan {
