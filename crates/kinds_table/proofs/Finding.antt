@@ -38,7 +38,7 @@ module _ (ws : List ℕ) (cs : Choice) (few : length ws ≤ 24) (whole : length 
 
   low : shut 0 cs < 2 ^ 24
   low =
-      let p : 2 ^ (0 + length cs) ≤ 2 ^ 24 = pow_mono (omega arith) in
+      let p : 2 ^ (0 + length cs) ≤ 2 ^ 24 = pow_mono {j = 24} (omega arith) in
       omega (arith, shut_below 0 cs)
 
   pub cost_low : (pans limit : ℕ) → limit + 2 ^ length ws ≡ (min pans 24 + 1) * 2 ^ 24 + 1 → opened cs ≤ pans → weight_of (gains (length ws)) cs < limit
@@ -59,7 +59,10 @@ module _ (r : Rule) (vs : List Window) (ks ws as' : List ℕ) (p : Plan) (plans 
   base = sum_below (λ (j : ℕ). get_or p.least j 0) (suc last)
 
   base_is : p.base ≡ base
-  base_is = rw (sym is-last) plans.laid.base
+  base_is = base_at (suc last) is-last
+    where
+      base_at : (n : ℕ) → p.kinds ≡ n → p.base ≡ sum_below (λ (j : ℕ). get_or p.least j 0) n
+      base_at n e = rw (sym e) plans.laid.base
 
   all : (i : ℕ) → ltb (get_or ks i 0) (suc last) ≡ true
   all i = lt-ltb (get_or ks i 0) (suc last) (omega (arith, known i, plans.kinds))
@@ -79,7 +82,7 @@ module _ (r : Rule) (vs : List Window) (ks ws as' : List ℕ) (p : Plan) (plans 
     enough : r.target ≤ base + over
     within : base + over ≤ r.target + r.above
     weight : weight_of ws cs ≡ base + over
-    few : opened cs ≤ r.pans
+    count : opened cs ≤ r.pans
     whole : length cs ≡ length ws
     mixing : Mixing (suc last) pans p.least p.most (base + over) cs
 
@@ -97,7 +100,7 @@ module _ (r : Rule) (vs : List Window) (ks ws as' : List ℕ) (p : Plan) (plans 
         enough = omega (arith, f.enough, b, s, weighs cs);
         within = omega (arith, f.within, b, s, weighs cs);
         weight = omega (arith, b, s, weighs cs);
-        few = f.few;
+        count = f.few;
         whole = f.whole;
         mixing = record {
           makes = record { whole = f.whole; does = law cs f.whole ∙ and_from (none_empty ws cs) (keeps_old r.age as' cs) f.filled f.old_opened; weighs = omega (arith, b, s, weighs cs) };
@@ -135,7 +138,7 @@ module _ (r : Rule) (vs : List Window) (ks ws as' : List ℕ) (p : Plan) (plans 
         none true e =
             let s = seen cs e in
             let t = at_weight cs s in
-            absurd (omega (arith, t.2, f s.over t.0 (omega (arith, s.enough, base_is)) (omega (arith, s.within, base_is, plans.span)) t.1, cost_low ws cs few s.whole r.pans limit limit-is s.few))
+            absurd (omega (arith, t.2, f s.over t.0 (omega (arith, s.enough, base_is)) (omega (arith, s.within, base_is, plans.span)) t.1, cost_low ws cs few s.whole r.pans limit limit-is s.count))
 
     module _ (o : Reached) (f : FirstAt one other (r.target - p.base) p.span limit o) (b : Bag) (says : Says ws ((p.base + o.over) * 2 ^ 29 + (o.cost + (2 ^ length ws - 1))) b) where
       best_bag : (es : Choice) × Mixing (suc last) pans p.least p.most (base + o.over) es × (cost (below (suc last)) pans es ≡ o.cost) → BestBag (mixes r vs ks ws as') ws b
@@ -160,7 +163,7 @@ module _ (r : Rule) (vs : List Window) (ks ws as' : List ℕ) (p : Plan) (plans 
           no-worse ds s =
               let t = at_weight ds s in
               let d = place_of ws ds few s.whole in
-              let c = cost_low ws ds few s.whole r.pans limit limit-is s.few in
+              let c = cost_low ws ds few s.whole r.pans limit limit-is s.count in
               let g = place_low ws es few m.makes.whole in
               by-weight d c g t (cases_lt s.over o.over) (cases_lt o.over s.over)
             where
@@ -172,7 +175,7 @@ module _ (r : Rule) (vs : List Window) (ks ws as' : List ℕ) (p : Plan) (plans 
                   let e : s.over ≡ o.over = omega arith in
                   let q : o.cost ≤ one t.0 + other (o.over - t.0) = f.costs.low t.0 (omega (arith, t.1)) in
                   let q' : o.cost ≤ one t.0 + other (s.over - t.0) = rw e q in
-                  omega (arith, d, place-is, s.weight, base_is, t.2)
+                  omega (arith, d, place-is, s.weight, base_is, t.2, q', pow_pos (length ws))
 
           unbeaten : (ds : Choice) → mixes r vs ks ws as' ds ≡ true → better ws ds es ≡ false
           unbeaten ds a =

@@ -9,4 +9,5 @@ pub mod Joining
 pub mod Together
 pub mod Clipping
 pub mod Finding
+pub mod Reading
 pub mod Mixes
