@@ -1,15 +1,15 @@
 -- What each kind may weigh, by its own window and by those of all others.
-use Rattle.std.proofs.Common.{◌≡◌, ℕ, zero, suc, ◌+◌, ◌-◌, ◌*◌, ◌<◌, ◌≤◌, min, max, Bool, true, false, ◌&&◌, leb, ltb, eqb, ◌⊎◌, List, [], ◌∷◌, length, get_or, inl, inr, sym, refl, ap, ◌∙◌, arith}
+use Rattle.std.proofs.Common.{◌≡◌, ℕ, zero, suc, ◌+◌, ◌-◌, ◌<◌, ◌≤◌, min, max, Bool, true, false, ◌&&◌, leb, ◌⊎◌, List, [], ◌∷◌, length, get_or, inl, inr, sym, refl, ◌∙◌, arith}
 use Rattle.std.proofs.lemmas.Bool.{and_parts, and_from, cases_lt, leb-true, le-leb, lt-ltb}
 use Rattle.choices.specs.Choice.{Choice, weight_of, fits}
 use Rattle.choices.specs.declared.rule.Rule.{Rule}
 use Rattle.choices.proofs.Choices.{fitting}
 use Rattle.kinds.specs.Kinds.{weight_of_kind, in_windows, mixes}
 use Rattle.kinds.specs.declared.mixed.Window.{Window}
-use Rattle.kinds_table.specs.Costs.{on_kinds, is, below}
+use Rattle.kinds_table.specs.Costs.{on_kinds, below}
 use Rattle.kinds_table.specs.Rows.{sum_below}
 use Rattle.order.specs.Order.{NoneOf}
-use Rattle.kinds_table.specs.Plans.{shut, Cut, Laid, Plans, wide_of}
+use Rattle.kinds_table.specs.Plans.{shut, Cut, Plans, wide_of}
 use Rattle.kinds_table.specs.declared.plan.Plan.{Plan}
 use Rattle.kinds_table.proofs.OnKinds.{on_next, on_none, on_all, on_is}
 

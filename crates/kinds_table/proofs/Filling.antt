@@ -1,5 +1,5 @@
 -- The rows of all kinds stand side by side; a pan changes that of its own kind alone.
-use Rattle.std.proofs.Common.{◌≡◌, ℕ, zero, suc, ◌+◌, ◌-◌, ◌*◌, ◌/◌, ◌^◌, ◌<◌, ◌≤◌, ◌≢◌, min, Bool, true, false, eqb, ltb, leb, ◌⊎◌, List, [], ◌∷◌, length, get_or, drop, inl, inr, sym, refl, ap, ◌∙◌, mul-le-mul_left, mul-one, mul-add, arith}
+use Rattle.std.proofs.Common.{◌≡◌, ℕ, zero, suc, ◌+◌, ◌-◌, ◌*◌, ◌/◌, ◌^◌, ◌<◌, ◌≤◌, ◌≢◌, min, Bool, true, false, eqb, ltb, ◌⊎◌, List, ◌∷◌, length, get_or, drop, inl, inr, sym, refl, ap, ◌∙◌, mul-le-mul_left, mul-one, mul-add, arith}
 use Rattle.std.proofs.lemmas.Bool.{cases_lt, cases_eq, eq-eqb, ne_eqb}
 use Rattle.std.proofs.lemmas.List.{drop_more}
 use Rattle.kinds_table.specs.Costs.{never, Lot, from, is, cost, Makes, Least}

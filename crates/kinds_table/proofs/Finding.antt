@@ -1,22 +1,21 @@
 -- The first weight that will do is that of the best of all mixed choices.
-use Rattle.std.proofs.Common.{◌≡◌, ℕ, zero, suc, ◌+◌, ◌-◌, ◌*◌, ◌/◌, ◌^◌, ◌<◌, ◌≤◌, min, Bool, true, false, ◌&&◌, ltb, ◌⊎◌, List, [], ◌∷◌, length, get_or, inl, inr, sym, refl, ap, ◌∙◌, Some, None, Option, arith, pow_mono}
+use Rattle.std.proofs.Common.{◌≡◌, ℕ, zero, suc, ◌+◌, ◌-◌, ◌*◌, ◌^◌, ◌<◌, ◌≤◌, min, Bool, true, false, ◌&&◌, ltb, ◌⊎◌, List, length, get_or, inl, inr, sym, refl, ap, ◌∙◌, None, arith, pow_mono}
 use Rattle.std.proofs.lemmas.Bool.{and_parts, and_from, cases_lt, lt-ltb}
 use Rattle.std.proofs.lemmas.Bool.Decides.{nat_tests}
 use Rattle.std.proofs.lemmas.Nat.{pow_pos}
 use Rattle.choices.specs.Choice.{Choice, weight_of, opened, none_empty, keeps_old, fits}
-use Rattle.choices.specs.Numbered.{number_of}
 use Rattle.choices.specs.declared.rule.Rule.{Rule}
 use Rattle.choices.proofs.Choices.{fitting, fits_from, opened_le}
-use Rattle.order.specs.Order.{better, BestOf, BestBag, NoneOf, Found}
+use Rattle.order.specs.Order.{better, BestBag, NoneOf}
 use Rattle.order.specs.declared.bag.Bag.{Bag}
-use Rattle.halves_places.specs.Place.{by_ways, place}
-use Rattle.halves_places.specs.Ring.{ways, Says}
+use Rattle.halves_places.specs.Place.{place}
+use Rattle.halves_places.specs.Ring.{Says}
 use Rattle.halves_places.proofs.Places.{shut, shut_below, place_is, better_place}
 use Rattle.halves_places.proofs.Rings.{by_ring}
 use Rattle.kinds.specs.Kinds.{weight_of_kind, in_windows, mixes}
 use Rattle.kinds.specs.declared.mixed.Window.{Window}
 use Rattle.kinds_table.specs.Costs.{never, Lot, on_kinds, lawful, gains, is, below, cost, Makes, Least}
-use Rattle.kinds_table.specs.Rows.{sum_below, Mixing, Joined, Sum, First, FirstAt}
+use Rattle.kinds_table.specs.Rows.{sum_below, Mixing, Joined, First, FirstAt}
 use Rattle.kinds_table.specs.Plans.{Plans, lot_of}
 use Rattle.kinds_table.specs.declared.plan.Plan.{Plan}
 use Rattle.kinds_table.specs.declared.search.Reached.{Reached}

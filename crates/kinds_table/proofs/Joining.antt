@@ -1,11 +1,10 @@
 -- The kinds joined so far, and one kind more.
-use Rattle.std.proofs.Common.{◌≡◌, ℕ, zero, suc, ◌+◌, ◌-◌, ◌*◌, ◌<◌, ◌≤◌, ◌≢◌, Bool, true, false, ◌&&◌, eqb, ltb, ◌⊎◌, List, [], ◌∷◌, length, get_or, inl, inr, sym, refl, ap, ◌∙◌, arith}
-use Rattle.std.proofs.lemmas.Bool.{and_parts, and_from, cases_lt, cases_eq, eq-eqb, ne_eqb, ltb-true, eqb-true}
-use Rattle.std.proofs.lemmas.Bool.Decides.{nat_tests}
+use Rattle.std.proofs.Common.{◌≡◌, ℕ, zero, suc, ◌+◌, ◌-◌, ◌<◌, ◌≤◌, true, false, eqb, ltb, ◌⊎◌, List, [], ◌∷◌, length, get_or, inl, inr, sym, refl, ap, ◌∙◌, arith}
+use Rattle.std.proofs.lemmas.Bool.{and_parts, and_from, cases_lt, ne_eqb, ltb-true, eqb-true}
 use Rattle.choices.specs.Choice.{Choice}
 use Rattle.kinds_table.specs.Costs.{never, Lot, on_kinds, lawful, gains, is, below, cost, Makes, Least}
 use Rattle.kinds_table.specs.Rows.{sum_below, Mixing, Joined, Sum}
-use Rattle.kinds_table.proofs.OnKinds.{on_next, lawful_next, on_none, lawful_none, Alike, alike_sum, alike_lawful, merge, length_merge, merge_takes, merge_keeps}
+use Rattle.kinds_table.proofs.OnKinds.{on_next, lawful_next, on_none, lawful_none, alike_sum, alike_lawful, merge, length_merge, merge_takes, merge_keeps}
 
 -- before any kind: what weighs nothing costs nothing
 abbrev all_shut : ℕ → Choice

@@ -1,5 +1,5 @@
 -- The bag is read off the last kind's row and the others' joined row, as parts of what is lent.
-use Rattle.std.proofs.Common.{◌≡◌, ℕ, suc, ◌+◌, ◌-◌, ◌*◌, ◌^◌, ◌<◌, ◌≤◌, min, List, length, get_or, take, drop, sym, refl, ap, ◌∙◌, Some, None, arith}
+use Rattle.std.proofs.Common.{◌≡◌, ℕ, ◌+◌, ◌-◌, ◌*◌, ◌^◌, ◌<◌, ◌≤◌, min, List, length, get_or, take, drop, ap, ◌∙◌, None, arith}
 use Rattle.choices.specs.declared.rule.Rule.{Rule}
 use Rattle.order.specs.Order.{BestBag, NoneOf}
 use Rattle.order.specs.declared.bag.Bag.{Bag}

@@ -1,9 +1,9 @@
 -- A row takes in one more pan, in front of those that it has.
-use Rattle.std.proofs.Common.{◌≡◌, ℕ, zero, suc, ◌+◌, ◌-◌, ◌*◌, ◌^◌, ◌<◌, ◌≤◌, min, Bool, true, false, cond, ◌&&◌, eqb, ltb, leb, ◌⊎◌, List, [], ◌∷◌, length, inl, inr, sym, refl, ap, ◌∙◌, arith}
-use Rattle.std.proofs.lemmas.Bool.{and_parts, and_from, both_ways, cases_lt, leb-true, leb-false, le-leb}
+use Rattle.std.proofs.Common.{◌≡◌, ℕ, suc, ◌+◌, ◌-◌, ◌^◌, ◌<◌, ◌≤◌, min, Bool, true, false, cond, ◌&&◌, ltb, leb, ◌⊎◌, List, [], ◌∷◌, length, inl, inr, refl, ap, ◌∙◌, arith}
+use Rattle.std.proofs.lemmas.Bool.{and_parts, both_ways, cases_lt, leb-true, leb-false, le-leb}
 use Rattle.std.proofs.lemmas.Bool.Decides.{nat_tests}
 use Rattle.choices.specs.Choice.{Choice}
-use Rattle.kinds_table.specs.Costs.{never, Lot, on_kinds, lawful, cost, gains, Makes, Least}
+use Rattle.kinds_table.specs.Costs.{never, Lot, on_kinds, lawful, cost, Makes, Least}
 use Rattle.kinds_table.specs.Rows.{back}
 
 abbrev pub lot : ℕ → (ks ws as' : List ℕ) → Lot

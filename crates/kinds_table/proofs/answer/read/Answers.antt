@@ -1,5 +1,5 @@
 -- What is left of the proof that the best bag is read off.
-use Rattle.std.proofs.Common.{◌≡◌, ◌+◌, ◌-◌, ◌*◌, ◌^◌, ◌≤◌, min, length, sym, pow_mono, mul-add, mul-one, arith}
+use Rattle.std.proofs.Common.{◌-◌, ◌^◌, ◌≤◌, length, pow_mono, arith}
 use Rattle.std.proofs.lemmas.Nat.{one_shl, pow_pos}
 use Rattle.kinds_table.proofs.Filling.{area_end}
 use Rattle.kinds_table.proofs.Together.{part_capped}

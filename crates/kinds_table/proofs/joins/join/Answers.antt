@@ -1,6 +1,5 @@
 -- What is left of the proof that a row is joined.
-use Rattle.std.proofs.Common.{◌+◌, length, arith}
-use Rattle.kinds_table.proofs.Sums.{none_so_far, all_so_far, cost_past}
+use Rattle.std.proofs.Common.{arith}
 use Rattle.kinds_table.proofs.Laying.{laying_none, laying_more}
 use Rattle.kinds_table.proofs.joins.join.Goals as goal
 use Rattle.kinds_table.proofs.joins.join.Goals.{then-gain-lt-NEVER, else-gain-lt-NEVER}

@@ -1,5 +1,5 @@
 -- What is left of the proof that all rows but the last are joined.
-use Rattle.std.proofs.Common.{◌≡◌, ℕ, ◌+◌, ◌-◌, ◌*◌, ◌<◌, ◌≤◌, ◌≢◌, ◌⊎◌, inl, inr, length, get_or, set, take, drop, ap, ◌∙◌, mul-add, mul-one, rules, arith}
+use Rattle.std.proofs.Common.{◌≡◌, ℕ, ◌+◌, ◌-◌, ◌*◌, ◌<◌, ◌≤◌, ◌≢◌, length, get_or, set, take, drop, ap, ◌∙◌, mul-add, mul-one, rules, arith}
 use Rattle.std.proofs.lemmas.List.{get_or-set_same, get_or-set_other, length-set}
 use Rattle.kinds_table.specs.Costs.{never}
 use Rattle.kinds_table.proofs.Filling.{area_end}

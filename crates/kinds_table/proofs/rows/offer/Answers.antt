@@ -1,7 +1,6 @@
 -- What is left of the proof that a row takes in a pan that may be opened or stay shut.
 use Rattle.std.proofs.Common.{◌≡◌, ℕ, ◌+◌, ◌-◌, ◌*◌, ◌<◌, ◌≤◌, min, get_or, ◌⊎◌, inl, inr, refl, ap₂, ◌∙◌, arith}
 use Rattle.std.proofs.lemmas.Bool.{cases_lt}
-use Rattle.kinds_table.specs.Costs.{never}
 use Rattle.kinds_table.specs.Rows.{back, row_at}
 use Rattle.kinds_table.proofs.Lowering.{back_near, back_far}
 use Rattle.kinds_table.proofs.rows.offer.Goals as goal

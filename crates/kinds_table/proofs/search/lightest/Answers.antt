@@ -1,5 +1,5 @@
 -- What is left of the proof that the first weight is found.
-use Rattle.std.proofs.Common.{◌≡◌, ℕ, ◌+◌, ◌-◌, ◌≤◌, ◌⊎◌, get_or, inl, inr, arith}
+use Rattle.std.proofs.Common.{◌≡◌, ◌+◌, ◌-◌, ◌≤◌, ◌⊎◌, get_or, inl, inr, arith}
 use Rattle.std.proofs.lemmas.Bool.{cases_eq}
 use Rattle.kinds_table.specs.Rows.{cost_in}
 use Rattle.kinds_table.proofs.search.lightest.Goals as goal

@@ -1,5 +1,5 @@
 -- What is left of the proof that the rows are filled.
-use Rattle.std.proofs.Common.{length, refl, arith}
+use Rattle.std.proofs.Common.{length, arith}
 use Rattle.std.proofs.lemmas.List.{length-drop}
 use Rattle.kinds_table.specs.Costs.{from}
 use Rattle.kinds_table.specs.Plans.{lot_of}

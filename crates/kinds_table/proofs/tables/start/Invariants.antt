@@ -1,5 +1,5 @@
 -- What the loop over the kinds keeps.
-use Rattle.std.proofs.Common.{◌≡◌, ℕ, ◌+◌, ◌*◌, ◌<◌, ◌≤◌, ◌≢◌, length, get_or}
+use Rattle.std.proofs.Common.{◌≡◌, ℕ, ◌+◌, ◌*◌, ◌<◌, ◌≢◌, length, get_or}
 use Rattle.kinds_table.specs.Costs.{never}
 use Rattle.kinds_table.specs.Rows.{Capped}
 use Rattle.kinds_table.proofs.tables.start.Given as goal

@@ -1,5 +1,5 @@
 -- What is left of the proof of the plan.
-use Rattle.std.proofs.Common.{◌+◌, length, refl, inl, inr, arith}
+use Rattle.std.proofs.Common.{◌+◌, refl, inl, inr, arith}
 use Rattle.std.proofs.lemmas.Bool.{cases_lt}
 use Rattle.kinds_table.proofs.Clipping.{plans_of, none_kind, none_base}
 use Rattle.kinds_table.proofs.plan.Plan.of.Goals as goal
