@@ -13,8 +13,7 @@ use halves_places::bag_in;
 use kinds::MixedRing;
 use order::Bag;
 
-/// The words of room that [`best`] needs: for each kind two rows with a word for each weight up to target and above, and some
-/// 32 more.
+/// The words of room that [`best`] needs: for each kind two rows, of at most target + above + 32 words.
 pub fn room_for(mixed: MixedRing) -> usize
     ensures { result ≡ room_of mixed.entry.ring.rule (length mixed.entry.windows.now) }
 {
