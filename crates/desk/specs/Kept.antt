@@ -6,6 +6,7 @@
 use Rattle.std.specs.Prelude.{◌≡◌, ℕ, List, [], length, vec_items, vec_len}
 use Rattle.choices.specs.Stand.{Stand, stand}
 use Rattle.halves.specs.declared.rooms.TheConstants.{ROOM}
+use Rattle.mixing.specs.declared.rooms.TheConstants.{KEYS}
 use Rattle.desk.specs.declared.kept.Desk.{Desk}
 use Rattle.desk.specs.declared.kept.TheConstants.{TABLE_ROOM}
 
@@ -35,3 +36,4 @@ pub record Fresh (d : Desk) : Type 0 where
   pub kinds : vec_items d.ring.kinds ≡ []
   pub room : vec_len d.entries ≡ ROOM
   pub bytes : vec_len d.bytes ≡ TABLE_ROOM
+  pub keys : vec_len d.keys ≡ KEYS

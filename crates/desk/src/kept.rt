@@ -3,6 +3,7 @@ ghost use Rattle.desk.specs.Kept.{Fresh};
 ghost use Rattle.std.specs.Prelude.{IfOk};
 
 use halves::ROOM;
+use mixing::KEYS;
 use std::alloc::{AllocError, Global};
 
 /// What a ring was given: what lies in each pan (in the scale's unit, 0 is empty), for how many bags each has waited,
@@ -23,6 +24,7 @@ pub struct Desk {
     pub ring: Loaded,
     pub entries: Vec<u64>,
     pub bytes: Vec<u8>,
+    pub keys: Vec<u32>,
 }
 
 /// Bytes for the table by weight, as many as it is ever asked for: at 24 pans the halves are the faster way beyond.
@@ -34,6 +36,7 @@ pub fn empty_desk(heap: Global) -> Result<Desk, AllocError>
 {
     let entries = vec![in heap; 0; ROOM]?;
     let bytes = vec![in heap; 0; TABLE_ROOM]?;
+    let keys = vec![in heap; 0; KEYS]?;
     let ring = Loaded {
         pans: Vec::new(heap),
         ages: Vec::new(heap),
@@ -45,5 +48,6 @@ pub fn empty_desk(heap: Global) -> Result<Desk, AllocError>
         ring,
         entries,
         bytes,
+        keys,
     })
 }

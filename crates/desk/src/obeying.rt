@@ -59,6 +59,7 @@ pub fn obey(desk: &mut Desk, command: Command, line: u64) -> Option<Reply>
             &mut desk.ring.ages,
             &desk.ring.kinds,
             &mut desk.entries,
+            &mut desk.keys,
             line,
         )),
         (Word::Mix, [bags]) => Some(mix_season_reply(
@@ -69,6 +70,7 @@ pub fn obey(desk: &mut Desk, command: Command, line: u64) -> Option<Reply>
             &desk.ring.handfuls,
             *bags,
             &mut desk.entries,
+            &mut desk.keys,
             line,
         )),
         _ => unreachable!(),

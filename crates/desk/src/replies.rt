@@ -51,11 +51,12 @@ pub(crate) fn mix_reply(
     ages: &mut [u32],
     kinds: &[u32],
     entries: &mut [u64],
+    keys: &mut [u32],
     line: u64,
 ) -> Reply
     ensures { Mixed rule.now (stand pans.old ages.old) kinds.now line result (stand pans.new ages.new) }
 {
-    let mut rooms = MixRooms { entries };
+    let mut rooms = MixRooms { keys, entries };
     Reply::of_bag(mix(rule, pans, ages, kinds, &mut rooms), line)
 }
 
@@ -68,13 +69,14 @@ pub(crate) fn mix_season_reply(
     handfuls: &[u32],
     bags: u32,
     entries: &mut [u64],
+    keys: &mut [u32],
     line: u64,
 ) -> Reply
     ensures { MixPlayedSo rule.now (stand pans.old ages.old) kinds.now handfuls.now bags line result (stand pans.new ages.new) }
 {
-    let mut rooms = MixRooms { entries };
-    let played = mix_season(rule, pans, ages, kinds, handfuls, bags, &mut rooms);
-    Reply::of_season(played, line)
+    let mut rooms = MixRooms { keys, entries };
+    let mixed = mix_season(rule, pans, ages, kinds, handfuls, bags, &mut rooms);
+    Reply::of_season(mixed, line)
 }
 
 // A handful falls into a lent pan, or it is said why not.
