@@ -12,5 +12,5 @@ pub use entry::mix;
 pub use kind::Mix;
 pub use laws::mix_refusals_are_exact;
 pub use refusal::KINDS_REFUSED;
-pub use rooms::{MixRooms, find_mix};
+pub use rooms::{KEYS, MixRooms, find_mix};
 pub use season::mix_season;
