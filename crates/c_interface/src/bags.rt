@@ -1,9 +1,13 @@
-// The best bag by each engine, as one number: its pans times 2^32 and its weight, 0 for none, or a refusal's number.
-// No bag has such a number below 2^32, since a bag opens a pan. C has no enums that hold values, so all of it is one number.
+//! The best bag by each engine, as one number: its pans times 2^32 and its weight, 0 for none, or a refusal's number.
+//!
+//! No bag has such a number below 2^32, since a bag opens a pan. C has no enums that hold values, so all of it is one
+//! number.
 ghost use Rattle.std.specs.Prelude.{◌≡◌, length};
+ghost use Rattle.answers.specs.Refusals.{or_else};
+ghost use Rattle.c_interface.specs.InNumbers.{Told as Says, bag_number, table_refusal};
 ghost use Rattle.choices.specs.Ruled.{rule_in};
-ghost use Rattle.c_interface.specs.Exported.{Told as Says, bag_number, table_refusal};
-ghost use Rattle.packing.specs.Refusals.{first_refusal, or_else, room_refusal};
+ghost use Rattle.choices.specs.Stand.{stand};
+ghost use Rattle.packing.specs.Refusals.{first_refusal, room_refusal};
 
 use engines::{Finder, Halves, Scan, Table};
 use order::Bag;
@@ -21,7 +25,7 @@ fn number(found: Option<Bag>) -> u64
 
 // What a finder answers, as one number.
 fn tell<'a, F: Finder>(rule: &[u32], weights: &'a [u32], ages: &'a [u32], finder: &mut F) -> u64
-    ensures { Says (or_else (first_refusal rule.now weights.now ages.now) (F.lacks finder.old (rule_in rule.now) weights.now ages.now)) (rule_in rule.now) weights.now ages.now result }
+    ensures { Says (or_else (first_refusal 4 rule.now (stand weights.now ages.now)) (F.lacks finder.old (rule_in rule.now) (stand weights.now ages.now))) (rule_in rule.now) (stand weights.now ages.now) result }
 {
     match find(rule, weights, ages, finder) {
         Ok(bag) => number(bag),
@@ -29,15 +33,18 @@ fn tell<'a, F: Finder>(rule: &[u32], weights: &'a [u32], ages: &'a [u32], finder
     }
 }
 
-// By the scan.
+/// The best bag of the pans by a rule in four numbers, by the scan, which takes no room; nothing is opened.
+///
+/// A bag is its pans (bit `i` is pan `i`) times 2^32, and its weight; 0 where no choice fits; 1 to 3 where the first
+/// refusal that applies has that number.
 #[unsafe(no_mangle)]
 pub extern "C" fn weigh_by_scan<'a>(rule: &[u32], weights: &'a [u32], ages: &'a [u32]) -> u64
-    ensures { Says (first_refusal rule.now weights.now ages.now) (rule_in rule.now) weights.now ages.now result }
+    ensures { Says (first_refusal 4 rule.now (stand weights.now ages.now)) (rule_in rule.now) (stand weights.now ages.now) result }
 {
     tell(rule, weights, ages, &mut Scan)
 }
 
-// By the two halves, in lent entries.
+/// The same by the two halves, in lent entries; 5 where they are too few for the ring: it asks for room.
 #[unsafe(no_mangle)]
 pub extern "C" fn weigh_by_halves<'a>(
     rule: &[u32],
@@ -45,12 +52,12 @@ pub extern "C" fn weigh_by_halves<'a>(
     ages: &'a [u32],
     entries: &mut [u64],
 ) -> u64
-    ensures { Says (room_refusal rule.now weights.now ages.now (length entries.old)) (rule_in rule.now) weights.now ages.now result }
+    ensures { Says (room_refusal rule.now (stand weights.now ages.now) (length entries.old)) (rule_in rule.now) (stand weights.now ages.now) result }
 {
     tell(rule, weights, ages, &mut Halves { entries })
 }
 
-// By the table, in lent bytes.
+/// The same by the table, in lent bytes; 5 where they are too few for the ring: it asks for room.
 #[unsafe(no_mangle)]
 pub extern "C" fn weigh_by_table<'a>(
     rule: &[u32],
@@ -58,7 +65,7 @@ pub extern "C" fn weigh_by_table<'a>(
     ages: &'a [u32],
     bytes: &mut [u8],
 ) -> u64
-    ensures { Says (table_refusal rule.now weights.now ages.now (length bytes.old)) (rule_in rule.now) weights.now ages.now result }
+    ensures { Says (table_refusal rule.now (stand weights.now ages.now) (length bytes.old)) (rule_in rule.now) (stand weights.now ages.now) result }
 {
     tell(rule, weights, ages, &mut Table { bytes })
 }

@@ -1,4 +1,4 @@
-// What programs in other languages may call: the engines and the season, on numbers and lent slices.
+//! What programs in other languages may call: the engines and the season, on numbers and lent slices.
 #![tactic(auto)]
 
 mod bags;

@@ -1,6 +1,6 @@
-// What a season's call answers, in numbers: C has no enums that hold values.
+//! What a season's call answers, in numbers: C has no enums that hold values.
 
-// The first refusal's number, or 0; and how many bags were made, what they weigh together and what of that was given away.
+/// The first refusal's number, or 0; and how many bags were made, what they weigh together and what of that was given away.
 #[repr(C)]
 #[derive(Clone, Copy)]
 pub struct Told {

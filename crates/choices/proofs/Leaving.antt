@@ -2,7 +2,7 @@
 use Rattle.std.proofs.Common.{◌≡◌, ℕ, zero, suc, ◌+◌, ◌≤◌, true, false, ltb, List, [], ◌∷◌, length, get_or, sym, refl, ◌∙◌, arith}
 use Rattle.std.proofs.lemmas.Bool.{and_parts, and_from, ltb-true, lt-ltb}
 use Rattle.choices.specs.Choice.{Choice, weight_of, keeps_old, emptied, aged}
-use Rattle.choices.specs.Stand.{Stand, InOrder, by_rule, Allowed, left_by, total, Young, Looser}
+use Rattle.choices.specs.Stand.{Stand, InOrder, by_rule, Allowed, left_by, total, NoneAbove, Looser}
 use Rattle.choices.specs.declared.limits.TheConstants.{LIMIT}
 use Rattle.choices.specs.declared.rule.Rule.{Rule}
 use Rattle.choices.proofs.Choices.{fitting, fits_from}
@@ -15,7 +15,7 @@ nothing_lost (w ∷ ws) (true ∷ cs) = omega (arith, nothing_lost ws cs)
 nothing_lost (w ∷ ws) (false ∷ cs) = omega (arith, nothing_lost ws cs)
 
 -- after a bag no age is above the rule's, whatever it was before
-pub aged_young : (old : ℕ) (as' : List ℕ) (cs : Choice) → length cs ≡ length as' → keeps_old old as' cs ≡ true → Young old (aged as' cs)
+pub aged_young : (old : ℕ) (as' : List ℕ) (cs : Choice) → length cs ≡ length as' → keeps_old old as' cs ≡ true → NoneAbove old (aged as' cs)
 aged_young old [] cs e h i = omega arith
 aged_young old (a ∷ as') [] e h i = absurd (omega arith)
 aged_young old (a ∷ as') (true ∷ cs) e h zero = omega arith
@@ -30,7 +30,7 @@ emptied_light m (w ∷ ws) (true ∷ cs) h zero = omega arith
 emptied_light m (w ∷ ws) (false ∷ cs) h zero = h 0
 emptied_light m (w ∷ ws) (c ∷ cs) h (suc i) = emptied_light m ws cs (λ j. h (suc j)) i
 
-pub left_young : {age least top : ℕ} {s : Stand} {cs : Choice} → length s.ages ≡ length s.weights → Allowed age least top s cs → Young age (left_by s cs).ages
+pub left_young : {age least top : ℕ} {s : Stand} {cs : Choice} → length s.ages ≡ length s.weights → Allowed age least top s cs → NoneAbove age (left_by s cs).ages
 left_young {age} {s = s} {cs} paired a = aged_young age s.ages cs (a.whole ∙ sym paired) a.old
 
 -- after a bag the pans are in order again

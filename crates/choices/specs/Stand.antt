@@ -9,9 +9,9 @@
 --                one, and its bag is not below a least weight and not above a top weight
 --   left_by      the stand that a choice leaves: opened pans are empty and of age 0, all others a bag older
 --   total        what lies in the pans together
---   Young        no pan has waited for more bags than so many
---   Looser       a rule (the second) whose bags may weigh, open and wait for all that the other's may: more above, more pans, a
---                higher age, or a lower target
+--   NoneAbove        no pan has waited for more bags than so many
+--   Looser       the second rule allows all that the first does: its target is no higher, its target + above no lower, its
+--                pans no fewer, its age no lower
 use Rattle.std.specs.Prelude.{◌≡◌, ℕ, ◌+◌, ◌≤◌, Bool, true, List, [], ◌∷◌, length, slice_index}
 use Rattle.choices.specs.Choice.{Choice, weight_of, none_empty, keeps_old, fits, emptied, aged}
 use Rattle.choices.specs.declared.rule.Rule.{Rule}
@@ -58,8 +58,8 @@ abbrev pub total : List ℕ → ℕ
 total [] = 0
 total (w ∷ ws) = w + total ws
 
-abbrev pub Young : ℕ → List ℕ → Type 0
-Young age as' = (i : ℕ) → slice_index as' i ≤ age
+abbrev pub NoneAbove : ℕ → List ℕ → Type 0
+NoneAbove age as' = (i : ℕ) → slice_index as' i ≤ age
 
 pub record Looser (r q : Rule) : Type 0 where
   pub lighter : q.target ≤ r.target

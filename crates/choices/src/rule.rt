@@ -1,6 +1,7 @@
-// A rule: what a bag has to be.
+//! A rule: what a bag has to be.
 
-// At least `target`, at most `above` more, of at most `pans` pans, with every pan in it that has waited `age` bags or more.
+/// A bag weighs at least `target` and at most `above` more, in the scale's unit, and opens at most `pans` pans, among
+/// them every old one: every pan whose age, in bags, is `age` or more.
 #[derive(Clone, Copy, Debug, PartialEq, Eq)]
 pub struct Rule {
     pub target: u32,

@@ -1,4 +1,4 @@
-// What one look over the pans tells of a choice: four numbers, each of which adds up over the opened pans.
+//! What one look over the pans tells of a choice: four numbers, each of which adds up over the opened pans.
 ghost use Rattle.std.specs.Prelude.{◌≡◌, ◌+◌, ◌^◌, ◌<◌, ◌≤◌, length, if◌then◌else◌, ◌==◌};
 ghost use Rattle.choices.specs.Choice.{bit};
 ghost use Rattle.choices.specs.Numbered.{choice_of};
@@ -7,7 +7,7 @@ ghost use Rattle.choices.specs.Tallied.{Adds, Tallied, makes_bag, old_count_of};
 use crate::ring::Ring;
 use crate::rule::Rule;
 
-// What the opened pans weigh, how many they are, how many of them are empty, and how many are old.
+/// What the opened pans weigh, how many they are, how many of them are empty, and how many are old.
 #[derive(Clone, Copy, Default)]
 pub struct Tally {
     pub weight: u32,
@@ -17,7 +17,7 @@ pub struct Tally {
 }
 
 impl Tally {
-    // Two tallies added up: of two choices that open no pan both, the tally of what they open together.
+    /// Two tallies added up: of two choices that open no pan both, the tally of what they open together.
     pub fn and(self, other: Tally) -> Tally
         requires { (self.weight + other.weight < 2 ^ 32) × ((self.pans + other.pans < 2 ^ 32) × ((self.empty + other.empty < 2 ^ 32) × (self.old + other.old < 2 ^ 32))) }
         ensures { Adds self other result }
@@ -51,7 +51,7 @@ impl Tally {
         self.and(added)
     }
 
-    // Whether a choice with this tally makes a bag by a rule, where `old_count` pans are old.
+    /// Whether a choice with this tally makes a bag by a rule, where `old_count` pans are old.
     pub fn fits(self, rule: Rule, old_count: u32) -> bool
         requires { rule.target + rule.above < 2 ^ 32 }
         ensures { result ≡ makes_bag rule old_count self }
@@ -63,7 +63,7 @@ impl Tally {
     }
 }
 
-// Weights and ages gone through side by side.
+/// The tally of a choice, by one look over the pans. Pan 0 is the highest of the ring's bits of `choice`.
 pub fn look(ring: Ring, choice: u32) -> Tally
     ensures { Tallied ring.entry.weights.now ring.entry.ages.now ring.entry.rule.age (choice_of (length ring.entry.weights.now) choice) result }
 {
@@ -75,7 +75,7 @@ pub fn look(ring: Ring, choice: u32) -> Tally
     seen
 }
 
-// How many pans are old: their age is the rule's age or more.
+/// How many pans are old: their age is the rule's age or more.
 pub fn old_count(ring: Ring) -> u32
     ensures { result ≡ old_count_of ring.entry.rule.age ring.entry.ages.now }
 {

@@ -1,3 +1,2 @@
 -- The lemmas that several proofs share.
-mod Lent
 mod Opened

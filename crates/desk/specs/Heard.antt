@@ -10,9 +10,9 @@ use Rattle.text.specs.declared.commands.Command.{Command}
 use Rattle.text.specs.declared.faults.Fault.{Fault}
 use Rattle.text.specs.declared.faults.Fault.TheVariants.{NoMemory}
 use Rattle.desk.specs.declared.printed.Reply.{Reply}
-use Rattle.desk.specs.declared.printed.Reply.TheVariants.{Refused}
 use Rattle.desk.specs.Kept.{State}
 use Rattle.desk.specs.Obeys.{Obeys}
+use Rattle.desk.specs.Printed.{refused_at}
 
 pub record Quiet (bs : List ℕ) (s t : State) (r : Option Reply) : Type 0 where
   pub passed : Passed bs
@@ -22,7 +22,7 @@ pub record Quiet (bs : List ℕ) (s t : State) (r : Option Reply) : Type 0 where
 pub record Unread (bs : List ℕ) (number : ℕ) (s t : State) (r : Option Reply) : Type 0 where
   pub heard : Passed bs → ⊥
   pub unwritten : Unwritten bs
-  pub said : r ≡ Some (Refused (Line number))
+  pub said : r ≡ Some (refused_at number Line)
   pub same : t ≡ s
 
 pub record Obeyed (bs : List ℕ) (number : ℕ) (s t : State) (r : Option Reply) : Type 0 where

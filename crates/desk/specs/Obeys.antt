@@ -1,5 +1,12 @@
 -- What each command does to what is kept, and what is answered. Assumes nothing: these are definitions.
+--   Rest           what was neither asked for nor lent stays as it was
+--   BagMade        a bag was asked for
+--   SeasonPlayed   a season was asked for
+--   HandfulFell    a handful fell
+--   ObeysWord      a word is obeyed with its numbers, at a line
+--   Obeys          a command is obeyed
 use Rattle.std.specs.Prelude.{◌≡◌, ℕ, List, Some, None, vec_items, Option, slice_index}
+use Rattle.choices.specs.Stand.{stand}
 use Rattle.seasons.specs.Fall.{fall_refusal}
 use Rattle.text.specs.declared.commands.Command.{Command}
 use Rattle.text.specs.declared.words.Word.{Word}
@@ -8,36 +15,34 @@ use Rattle.desk.specs.declared.printed.Reply.{Reply}
 use Rattle.desk.specs.Replies.{Bagged, PlayedSo, FellSo}
 use Rattle.desk.specs.Kept.{State}
 
--- what was neither asked for nor lent stays as it was
 pub record Rest (s t : State) : Type 0 where
   pub rule : t.rule ≡ s.rule
-  pub handfuls : t.handfuls ≡ s.handfuls
+  pub handfuls : t.ring.handfuls ≡ s.ring.handfuls
   pub entries : t.entries ≡ s.entries
 
-pub record BagMade (s t : State) (r : Option Reply) : Type 0 where
+pub record BagMade (s t : State) (line : ℕ) (r : Option Reply) : Type 0 where
   pub reply : Reply
   pub said : r ≡ Some reply
-  pub bagged : Bagged s.rule s.pans s.ages s.entries t.pans t.ages reply
+  pub bagged : Bagged s.rule s.ring.stand s.entries line reply t.ring.stand
   pub rest : Rest s t
 
 pub record SeasonPlayed (s t : State) (bags line : ℕ) (r : Option Reply) : Type 0 where
   pub reply : Reply
   pub said : r ≡ Some reply
-  pub played : PlayedSo s.rule s.pans s.ages s.handfuls bags line t.pans t.ages reply
+  pub played : PlayedSo s.rule s.ring.stand s.ring.handfuls bags line reply t.ring.stand
   pub rest : Rest s t
 
 pub record HandfulFell (s t : State) (pan grams line : ℕ) (r : Option Reply) : Type 0 where
-  pub fell : FellSo (fall_refusal s.pans pan grams line) s.pans pan grams t.pans r
-  pub ages : t.ages ≡ s.ages
+  pub fell : FellSo (fall_refusal s.ring.stand.weights pan grams) s.ring.stand.weights pan grams line r t.ring.stand.weights
+  pub ages : t.ring.stand.ages ≡ s.ring.stand.ages
   pub rest : Rest s t
 
--- the word obeyed with its numbers
 abbrev pub ObeysWord : Word → (numbers : List ℕ) → (line : ℕ) → (before after : State) → Option Reply → Type 0
-ObeysWord Rule ns l s t r = (r ≡ None) × (t ≡ record { rule = ns; pans = s.pans; ages = s.ages; handfuls = s.handfuls; entries = s.entries })
-ObeysWord Pans ns l s t r = (r ≡ None) × (t ≡ record { rule = s.rule; pans = ns; ages = s.ages; handfuls = s.handfuls; entries = s.entries })
-ObeysWord Ages ns l s t r = (r ≡ None) × (t ≡ record { rule = s.rule; pans = s.pans; ages = ns; handfuls = s.handfuls; entries = s.entries })
-ObeysWord Handfuls ns l s t r = (r ≡ None) × (t ≡ record { rule = s.rule; pans = s.pans; ages = s.ages; handfuls = ns; entries = s.entries })
-ObeysWord Bag ns l s t r = BagMade s t r
+ObeysWord Rule ns l s t r = (r ≡ None) × (t ≡ record s { rule = ns })
+ObeysWord Pans ns l s t r = (r ≡ None) × (t ≡ record s { ring = record s.ring { stand = stand ns s.ring.stand.ages } })
+ObeysWord Ages ns l s t r = (r ≡ None) × (t ≡ record s { ring = record s.ring { stand = stand s.ring.stand.weights ns } })
+ObeysWord Handfuls ns l s t r = (r ≡ None) × (t ≡ record s { ring = record s.ring { handfuls = ns } })
+ObeysWord Bag ns l s t r = BagMade s t l r
 ObeysWord Fall ns l s t r = HandfulFell s t (slice_index ns 0) (slice_index ns 1) l r
 ObeysWord Bags ns l s t r = SeasonPlayed s t (slice_index ns 0) l r
 

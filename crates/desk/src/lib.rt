@@ -1,4 +1,4 @@
-// The desk: what the program keeps between its lines, and what it answers to each.
+//! The desk: what the program keeps between its lines, and what it answers to each.
 #![tactic(auto)]
 
 mod hearing;
@@ -8,6 +8,6 @@ mod printed;
 mod replies;
 
 pub use hearing::hear;
-pub use kept::{Desk, empty_desk};
+pub use kept::{Desk, Loaded, TABLE_ROOM, empty_desk};
 pub use obeying::obey;
-pub use printed::Reply;
+pub use printed::{Refused, Reply};

@@ -1,4 +1,4 @@
-// What a command does to what is kept.
+//! What a command does to what is kept.
 ghost use Rattle.desk.specs.Kept.{state_of};
 ghost use Rattle.desk.specs.Obeys.{Obeys};
 
@@ -19,34 +19,35 @@ pub fn obey(desk: &mut Desk, command: Command, line: u64) -> Option<Reply>
             None
         }
         (Word::Pans, _) => {
-            desk.pans = numbers;
+            desk.ring.pans = numbers;
             None
         }
         (Word::Ages, _) => {
-            desk.ages = numbers;
+            desk.ring.ages = numbers;
             None
         }
         (Word::Handfuls, _) => {
-            desk.handfuls = numbers;
+            desk.ring.handfuls = numbers;
             None
         }
         (Word::Bag, _) => Some(bag_reply(
             &desk.rule,
-            &mut desk.pans,
-            &mut desk.ages,
+            &mut desk.ring.pans,
+            &mut desk.ring.ages,
             &mut desk.entries,
             &mut desk.bytes,
+            line,
         )),
-        (Word::Fall, [pan, grams]) => fall_reply(&mut desk.pans, *pan, *grams, line),
+        (Word::Fall, [pan, grams]) => fall_reply(&mut desk.ring.pans, *pan, *grams, line),
         (Word::Bags, [bags]) => Some(season_reply(
             &desk.rule,
-            &mut desk.pans,
-            &mut desk.ages,
-            &desk.handfuls,
+            &mut desk.ring.pans,
+            &mut desk.ring.ages,
+            &desk.ring.handfuls,
             *bags,
-            line,
             &mut desk.entries,
             &mut desk.bytes,
+            line,
         )),
         _ => unreachable!(),
     }

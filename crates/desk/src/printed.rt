@@ -1,8 +1,8 @@
-// What the program answers, and how it is printed.
+//! What the program answers, and how it is printed.
 ghost use Rattle.answers.specs.Refusals.{refusal_number, refusal_place};
 ghost use Rattle.std.specs.Fmt.{WritesOnOk};
 ghost use Rattle.std.specs.Prelude.{◌≡◌, Some};
-ghost use Rattle.desk.specs.Printed.{said, open_text, refused_text, season_text, pans_below, reply_of, season_reply};
+ghost use Rattle.desk.specs.Printed.{bag_reply, open_text, pans_below, refused_at, refused_text, said, season_reply, season_text};
 ghost use Rattle.text.specs.Written.{spaced};
 
 use answers::{Played, Refusal};
@@ -10,34 +10,48 @@ use order::Bag;
 use std::fmt;
 use text::put_number;
 
+/// Why a line was turned away, and which line, counted from 0.
+#[derive(Clone, Copy, Debug, PartialEq, Eq)]
+pub struct Refused {
+    pub refusal: Refusal,
+    pub line: u64,
+}
+
 /// What is answered to a command.
 #[derive(Clone, Copy)]
 pub enum Reply {
     Open(Bag),
     None,
-    Refused(Refusal),
+    Refused(Refused),
     Season(Played),
 }
 
-impl From<Result<Option<Bag>, Refusal>> for Reply {
-    ghost from_gives = { λ bag reply. reply ≡ reply_of bag };
+impl Reply {
+    /// What is turned away at a line, counted from 0.
+    pub fn refused(refusal: Refusal, line: u64) -> Reply
+        ensures { result ≡ refused_at line refusal }
+    {
+        Reply::Refused(Refused { refusal, line })
+    }
 
-    fn from(bag: Result<Option<Bag>, Refusal>) -> Reply {
+    /// The answer where a bag was asked for at a line.
+    pub fn of_bag(bag: Result<Option<Bag>, Refusal>, line: u64) -> Reply
+        ensures { result ≡ bag_reply line bag }
+    {
         match bag {
             Ok(Some(bag)) => Reply::Open(bag),
             Ok(None) => Reply::None,
-            Err(refusal) => Reply::Refused(refusal),
+            Err(refusal) => Reply::refused(refusal, line),
         }
     }
-}
 
-impl From<Result<Played, Refusal>> for Reply {
-    ghost from_gives = { λ season reply. reply ≡ season_reply season };
-
-    fn from(season: Result<Played, Refusal>) -> Reply {
+    /// The answer where a season was asked for at a line.
+    pub fn of_season(season: Result<Played, Refusal>, line: u64) -> Reply
+        ensures { result ≡ season_reply line season }
+    {
         match season {
             Ok(played) => Reply::Season(played),
-            Err(refusal) => Reply::Refused(refusal),
+            Err(refusal) => Reply::refused(refusal, line),
         }
     }
 }
@@ -62,11 +76,11 @@ fn put_open<W: fmt::Write>(f: &mut fmt::Formatter<W>, bag: Bag) -> fmt::Result
     write!(f, ": {}", bag.weight)
 }
 
-fn put_refused<W: fmt::Write>(f: &mut fmt::Formatter<W>, refusal: Refusal) -> fmt::Result
-    ensures { WritesOnOk W.write_str_gives f.old result (refused_text (refusal_number refusal) (refusal_place refusal)) f.new }
+fn put_refused<W: fmt::Write>(f: &mut fmt::Formatter<W>, refused: Refused) -> fmt::Result
+    ensures { WritesOnOk W.write_str_gives f.old result (refused_text (refusal_number refused.refusal) (refusal_place refused.refusal refused.line)) f.new }
 {
-    let number = refusal.number();
-    let place = refusal.place();
+    let number = refused.refusal.number();
+    let place = refused.refusal.place(refused.line);
     write!(f, "refused {number} at {place}")
 }
 
@@ -90,7 +104,7 @@ impl fmt::Display for Reply {
         match *self {
             Reply::Open(bag) => put_open(f, bag),
             Reply::None => f.write_str("none"),
-            Reply::Refused(refusal) => put_refused(f, refusal),
+            Reply::Refused(refused) => put_refused(f, refused),
             Reply::Season(played) => put_season(f, played),
         }
     }

@@ -19,8 +19,8 @@ pub trait Finder {
     fn suffices(&self, ring: Ring) -> Result<(), Refusal>
         ensures { result ≡ passed (lacks self.now ring.entry.rule (stand ring.entry.weights.now ring.entry.ages.now)) tt };
 
-    /// The best of all choices that fit the ring's rule, or none where no choice fits. What was lent holds nothing of meaning
-    /// afterwards, and is as long as before.
+    /// The best of all choices that fit the ring's rule, or none where no choice fits. What was lent holds nothing of
+    /// meaning afterwards, and is as long as before.
     fn best(&mut self, ring: Ring) -> Option<Bag>
         requires { lacks self.old ring.rule (stand ring.weights.now ring.ages.now) ≡ None }
         ensures found { Found (by_rule ring.entry.rule (stand ring.entry.weights.now ring.entry.ages.now)) ring.entry.weights.now result }

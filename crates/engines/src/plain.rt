@@ -1,7 +1,8 @@
 //! The plain kind of bag: what fits a rule.
 ghost use Rattle.choices.specs.Stand.{by_rule};
 ghost use Rattle.std.specs.Prelude.{◌≡◌};
-ghost use Rattle.engines.specs.Plain.{age_of, least_of, rule_lawful, rule_ready, same_rule, top_of};
+ghost use Rattle.engines.specs.Plain.{age_of, least_of, rule_ready, same_rule, top_of};
+ghost use Rattle.engines.specs.PlainLaw.{rule_lawful};
 
 use crate::finder::Finder;
 use crate::kind::Kind;

@@ -1,5 +1,6 @@
 //! The three engines, each with the room that it is lent.
-ghost use Rattle.engines.specs.Lacks.{bytes_lacked, entries_lacked, nothing_lacked};
+ghost use Rattle.engines.specs.Bytes.{bytes_lacked};
+ghost use Rattle.engines.specs.Lacks.{entries_lacked, nothing_lacked};
 ghost use Rattle.std.specs.Prelude.{length};
 
 use crate::finder::Finder;

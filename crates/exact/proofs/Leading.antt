@@ -4,7 +4,7 @@ use native.Mathlib.Nat.{pow-succ'}
 use Rattle.std.proofs.lemmas.Nat.{pow_below, shl_below}
 use Rattle.std.proofs.lemmas.List.{drop-drop}
 use Rattle.std.proofs.lemmas.Bool.{cases_lt}
-use Rattle.choices.specs.Choice.{Choice, weight_of, opened}
+use Rattle.choices.specs.Choice.{Choice, opened}
 use Rattle.choices.specs.Numbered.{number_of}
 use Rattle.choices.proofs.Choices.{weighs_none}
 use Rattle.choices.proofs.Numbers.{number_lt}

@@ -5,7 +5,7 @@ ghost use Rattle.exact.specs.Answers.{Answers};
 use crate::few::few;
 use crate::free::{free_weights, heaviest};
 use crate::old::old_pans;
-use choices::Ring;
+use choices::{PANS, Ring};
 use order::Bag;
 
 /// The best bag of a ring, if it can weigh exactly the target with at most four pans besides the old ones.
@@ -21,7 +21,7 @@ pub fn best(ring: Ring, room: &mut [u8]) -> Option<Bag>
         return None;
     }
     let left = rule.target - old.weight;
-    let mut pans = [0; 24];
+    let mut pans = [0; PANS];
     let free = &mut pans[..ring.weights.len()];
     free_weights(ring, free);
     let wide = left as usize + 2;

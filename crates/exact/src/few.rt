@@ -1,4 +1,5 @@
 //! The choice of the fewest pans that weighs exactly so much, of at most four pans.
+ghost use Rattle.choices.specs.declared.limits.TheConstants.{PANS};
 ghost use Rattle.std.specs.Prelude.{ℕ, ◌+◌, ◌<◌, ◌≤◌, length, slice_index, EachIndex};
 ghost use Rattle.exact.specs.Few.{Chosen};
 
@@ -11,7 +12,7 @@ use crate::tables::{fill_ones, fill_pairs};
 /// `free` is what `free_weights` writes. `ones` and `pairs` have at least `weight` + 2 bytes and may hold anything; their
 /// contents are unspecified afterwards.
 pub fn few(free: &[u32], weight: u32, most: u32, ones: &mut [u8], pairs: &mut [u8]) -> Option<u32>
-    requires few { length free.now ≤ 24 }
+    requires few { length free.now ≤ PANS }
     requires some { EachIndex free.now (λ i. 1 ≤ slice_index free.now i) }
     requires all { EachIndex free.now (λ i. slice_index free.now i ≤ 26000000) }
     requires room { (weight + 1 < length ones.old) × (weight + 1 < length pairs.old) }

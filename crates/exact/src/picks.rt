@@ -1,11 +1,12 @@
 //! The choices of one, two, three or four pans that weigh exactly so much, as numbers: bit i is pan i. Of several choices
 //! the one is answered that opens the first pan that differs. `ones` and `pairs` are the tables of tables.rt.
+ghost use Rattle.choices.specs.declared.limits.TheConstants.{PANS};
 ghost use Rattle.std.specs.Prelude.{◌≡◌, ℕ, ◌+◌, ◌*◌, ◌^◌, ◌<◌, ◌≤◌, length};
 ghost use Rattle.exact.specs.Few.{Leads, Picks, Tells};
 
 /// The first pan that weighs exactly `weight`, or `None`: there is none.
 pub fn one(free: &[u32], weight: u32) -> Option<u32>
-    requires { length free.now ≤ 24 }
+    requires { length free.now ≤ PANS }
     ensures { Picks 1 free.now weight result }
 {
     let pan = free.iter().position(|w| *w == weight)?;
@@ -27,7 +28,7 @@ fn lead(free: &[u32], table: &[u8], weight: u32) -> Option<usize>
 
 // The number of a choice that opens `pan` and, of the pans after it, those of the choice `behind`.
 fn joined(pan: usize, behind: u32) -> u32
-    requires { (pan < 24) × ((behind < 2 ^ 24) × ((2 * behind + 1) * 2 ^ pan < 2 ^ 32)) }
+    requires { (pan < PANS) × ((behind < 2 ^ 24) × ((2 * behind + 1) * 2 ^ pan < 2 ^ 32)) }
     ensures { result ≡ (2 * behind + 1) * 2 ^ pan }
 {
     (2 * behind + 1) << pan
@@ -35,7 +36,7 @@ fn joined(pan: usize, behind: u32) -> u32
 
 /// The choice of two pans that weighs exactly `weight`, or `None`: there is none.
 pub fn two(free: &[u32], ones: &[u8], weight: u32) -> Option<u32>
-    requires few { length free.now ≤ 24 }
+    requires few { length free.now ≤ PANS }
     requires room { weight + 1 < length ones.now }
     requires ones { Tells 1 free.now ones.now }
     ensures { Picks 2 free.now weight result }
@@ -47,7 +48,7 @@ pub fn two(free: &[u32], ones: &[u8], weight: u32) -> Option<u32>
 
 /// The choice of three pans that weighs exactly `weight`, or `None`: there is none.
 pub fn three(free: &[u32], ones: &[u8], pairs: &[u8], weight: u32) -> Option<u32>
-    requires few { length free.now ≤ 24 }
+    requires few { length free.now ≤ PANS }
     requires room { (weight + 1 < length ones.now) × (weight + 1 < length pairs.now) }
     requires ones { Tells 1 free.now ones.now }
     requires pairs { Tells 2 free.now pairs.now }
@@ -60,7 +61,7 @@ pub fn three(free: &[u32], ones: &[u8], pairs: &[u8], weight: u32) -> Option<u32
 
 /// The choice of four pans that weighs exactly `weight`, or `None`: there is none.
 pub fn four(free: &[u32], ones: &[u8], pairs: &[u8], weight: u32) -> Option<u32>
-    requires few { length free.now ≤ 24 }
+    requires few { length free.now ≤ PANS }
     requires room { (weight + 1 < length ones.now) × (weight + 1 < length pairs.now) }
     requires ones { Tells 1 free.now ones.now }
     requires pairs { Tells 2 free.now pairs.now }

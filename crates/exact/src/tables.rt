@@ -1,11 +1,12 @@
 //! Two tables in a lent room, of one pan and of two: byte x tells how few of the last pans are enough for one pan, or two,
 //! of them to weigh exactly x. It is 255 where none do, and the last byte collects what is too heavy.
+ghost use Rattle.choices.specs.declared.limits.TheConstants.{PANS};
 ghost use Rattle.std.specs.Prelude.{◌≡◌, ℕ, ◌+◌, ◌<◌, ◌≤◌, length, slice_index, EachIndex};
 ghost use Rattle.exact.specs.Few.{Marked, Sums, Tells};
 
 /// Fills the table of single pans of `free`, which is what `free_weights` writes.
 pub fn fill_ones(free: &[u32], ones: &mut [u8])
-    requires few { length free.now ≤ 24 }
+    requires few { length free.now ≤ PANS }
     requires some { EachIndex free.now (λ i. 1 ≤ slice_index free.now i) }
     requires room { 2 ≤ length ones.old }
     ensures { Tells 1 free.now ones.new }
@@ -33,7 +34,7 @@ fn mark(first: u32, behind: &[u32], byte: u8, pairs: &mut [u8])
 
 /// Fills the table of pairs of pans of `free`, which is what `free_weights` writes.
 pub fn fill_pairs(free: &[u32], pairs: &mut [u8])
-    requires few { length free.now ≤ 24 }
+    requires few { length free.now ≤ PANS }
     requires some { EachIndex free.now (λ i. 1 ≤ slice_index free.now i) }
     requires all { EachIndex free.now (λ i. slice_index free.now i ≤ 26000000) }
     requires room { 2 ≤ length pairs.old }

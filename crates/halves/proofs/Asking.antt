@@ -8,7 +8,8 @@ use Rattle.halves_places.specs.Place.{place}
 use Rattle.halves_places.specs.declared.way.Way.{Way}
 use Rattle.halves_sweeps.specs.Sweep.{Apart, LeastOf, Together}
 use Rattle.halves.specs.Half.{Half}
-use Rattle.halves.specs.Next.{Allowed, Filled, Next, before, half_of}
+use Rattle.halves.specs.Next.{Allowed, Filled, Next}
+use Rattle.halves.specs.Entries.{before, half_of}
 use Rattle.halves.specs.declared.filled.Halves.{Halves}
 use Rattle.halves.proofs.Joining.{tops_low, apart, least_of, first_of}
 use Rattle.halves.proofs.RoomParts.{half_whole}

@@ -6,7 +6,7 @@ use Rattle.halves_places.specs.declared.way.Way.{Way}
 use Rattle.halves_growth.specs.Part.{Part}
 use Rattle.halves_sieves.specs.declared.bounds.Bounds.{Bounds}
 use Rattle.halves.specs.Half.{Half}
-use Rattle.halves.specs.Next.{half_of}
+use Rattle.halves.specs.Entries.{half_of}
 
 -- what no pan of the ring passes no pan of a part passes
 pub heavy_take : (m n : ℕ) (ws : List ℕ) → ((i : ℕ) → get_or ws i 0 ≤ m) → (i : ℕ) → get_or (take n ws) i 0 ≤ m

@@ -1,4 +1,5 @@
 -- The definitions that contracts cite.
 pub mod Asked
+pub mod Entries
 pub mod Half
 pub mod Next

@@ -1,25 +1,14 @@
 -- Two halves and the pans before them, and the next choice among them. Assumes nothing: these are definitions.
---   half_of      how many pans each half of n pans has: all but the first one or two
---   room_for     how many entries both halves of n pans take
---   before       how many pans stand before the halves
 --   Filled       the entries are those of the pans before the halves, of the front half and of the back half
 --   Allowed      a choice by the ways, of at most so many pans, from a place on
 --   Next         the first place from `from` on, below `to`, of an allowed choice; or that there is none
-use Rattle.std.specs.Prelude.{◌≡◌, ℕ, ◌+◌, ◌-◌, ◌/◌, ◌^◌, ◌<◌, ◌≤◌, true, List, length, Some, None, Option}
+use Rattle.std.specs.Prelude.{◌≡◌, ℕ, ◌+◌, ◌<◌, ◌≤◌, true, List, length, Some, None, Option}
 use Rattle.choices.specs.Choice.{Choice, opened}
 use Rattle.halves_places.specs.Place.{by_ways, place}
+use Rattle.halves.specs.Entries.{before, half_of}
 use Rattle.halves.specs.Half.{Half}
 use Rattle.halves_places.specs.declared.way.Way.{Way}
 use Rattle.halves.specs.declared.filled.Halves.{Halves}
-
-abbrev pub half_of : ℕ → ℕ
-half_of n = (n - 1) / 2
-
-abbrev pub room_for : ℕ → ℕ
-room_for n = 2 ^ half_of n + 2 ^ half_of n
-
-abbrev pub before : ℕ → ℕ
-before n = n - (half_of n + half_of n)
 
 pub record Filled (ws : List ℕ) (vs : List Way) (s : Halves) : Type 0 where
   pub tops : Half s.bounds ws vs 0 (before (length ws)) s.tops s.top

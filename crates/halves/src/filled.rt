@@ -4,8 +4,8 @@ ghost use Rattle.std.specs.Prelude.{◌≡◌, ◌≤◌, length};
 use halves_sieves::Bounds;
 use halves_sweeps::Lists;
 
-/// What the pans of a ring fill: the places of the choices of each part of the pans, in order. None is left out that the bounds
-/// allow.
+/// What the pans of a ring fill: the places of the choices of each part of the pans, in order. None is left out that
+/// the bounds allow.
 #[derive(Clone, Copy)]
 pub struct Halves<'a> {
     /// The choices of the one or two pans before the halves: four at most, so they need no lent room.

@@ -3,7 +3,8 @@ ghost use Rattle.std.specs.Prelude.{◌≡◌, ℕ, ◌+◌, ◌-◌, ◌*◌, �
 ghost use Rattle.halves_growth.specs.Part.{Part};
 ghost use Rattle.halves.specs.Asked.{FirstSum};
 ghost use Rattle.halves.specs.Half.{Half};
-ghost use Rattle.halves.specs.Next.{Filled, Next, before, half_of, room_for};
+ghost use Rattle.halves.specs.Next.{Filled, Next};
+ghost use Rattle.halves.specs.Entries.{before, half_of, room_for};
 ghost use Rattle.halves_sieves.specs.Sieve.{part as part_of};
 ghost use Rattle.halves_sweeps.specs.Sweep.{Apart};
 
@@ -66,8 +67,8 @@ fn halved<'a>(pans: Pans, half: usize, bounds: Bounds, room: &'a mut [u64]) -> L
     }
 }
 
-/// Fills a lent room with the choices of the pans that their ways allow, that open at most `limit` pans, weigh `least` or more
-/// and have a place below `to`.
+/// Fills a lent room with the choices of the pans that their ways allow, that open at most `limit` pans, weigh `least`
+/// or more and have a place below `to`.
 ///
 /// The room has at least [`room_for`](crate::room_for) entries, and stays lent.
 pub fn fill<'a>(pans: Pans, limit: u32, least: u32, to: u64, room: &'a mut [u64]) -> Halves<'a>
@@ -107,8 +108,8 @@ pub(crate) fn first_place(halves: Halves, from: u64) -> Option<u64>
     (found < to).then_some(found)
 }
 
-/// The first place from `from` on of a choice that is allowed: that opens and leaves shut what the pans' ways allow, opens no
-/// more pans than the halves' limit, and comes before their end. `None` where there is none.
+/// The first place from `from` on of a choice that is allowed: that opens and leaves shut what the pans' ways allow,
+/// opens no more pans than the halves' limit, and comes before their end. `None` where there is none.
 ///
 /// The halves hold no choice that weighs less than their least, so `from` is at least that weight's first place.
 pub fn next(pans: Pans, halves: Halves, from: u64) -> Option<u64>

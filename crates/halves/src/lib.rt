@@ -1,4 +1,5 @@
-// The best bag by two halves of the pans: the choices of each half in order, and a sweep over both beside the pans before them.
+// The best bag by two halves of the pans: the choices of each half in order, and a sweep over both beside the pans
+// before them.
 #![tactic(auto)]
 
 mod answer;

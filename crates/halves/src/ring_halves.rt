@@ -1,6 +1,6 @@
 // The halves of a ring, filled once and asked again and again.
 ghost use Rattle.halves.specs.Asked.{FilledFor, FirstFrom};
-ghost use Rattle.halves.specs.Next.{room_for};
+ghost use Rattle.halves.specs.Entries.{room_for};
 ghost use Rattle.std.specs.Prelude.{◌≡◌, ◌≤◌, length};
 
 use crate::filled::Halves;
@@ -48,8 +48,8 @@ impl<'a> RingHalves<'a> {
 
     /// The first fitting choice whose place is `from` or higher, or `None` where every fitting choice has a lower one.
     ///
-    /// `next_from(0)` is the best choice of all. After `Some(placed)` the next one is `next_from(placed.place + 1)`. Each call is
-    /// one sweep over the halves; nothing is kept between calls.
+    /// `next_from(0)` is the best choice of all. After `Some(placed)` the next one is `next_from(placed.place + 1)`.
+    /// Each call is one sweep over the halves; nothing is kept between calls.
     pub fn next_from(self, from: u64) -> Option<Placed>
         ensures { FirstFrom self.entry.ring.rule self.entry.ring.weights.now self.entry.ring.ages.now from result }
     {

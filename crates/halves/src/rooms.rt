@@ -1,6 +1,7 @@
 // How many pans each half has, and the room that the halves take.
+ghost use Rattle.choices.specs.declared.limits.TheConstants.{PANS};
 ghost use Rattle.std.specs.Prelude.{◌≡◌, ℕ, ◌/◌, ◌^◌, ◌≤◌};
-ghost use Rattle.halves.specs.Next.{half_of, room_for};
+ghost use Rattle.halves.specs.Entries.{half_of, room_for};
 
 /// Room, in entries of 8 bytes, for the halves of 24 pans, which is the most that a ring has.
 pub const ROOM: usize = 4096;
@@ -14,7 +15,7 @@ pub fn half_of(pans: usize) -> usize
 
 /// How many entries so many pans have: one for each of their choices.
 pub fn entries(pans: usize) -> usize
-    requires { pans ≤ 24 }
+    requires { pans ≤ PANS }
     ensures { result ≡ 2 ^ pans }
 {
     1 << pans
@@ -22,7 +23,7 @@ pub fn entries(pans: usize) -> usize
 
 /// How many entries a lent room has to have for the halves of so many pans.
 pub fn room_for(pans: usize) -> usize
-    requires { pans ≤ 24 }
+    requires { pans ≤ PANS }
     ensures value { result ≡ room_for pans }
     ensures enough { result ≤ 4096 }
 {
@@ -32,7 +33,7 @@ pub fn room_for(pans: usize) -> usize
 /// The room for 24 pans, which is enough for every ring.
 pub fn full_room() -> usize
     ensures value { result ≡ room_for 24 }
-    ensures enough { (n : ℕ) → n ≤ 24 → room_for n ≤ result }
+    ensures enough { (n : ℕ) → n ≤ PANS → room_for n ≤ result }
 {
     ROOM
 }

@@ -1,4 +1,5 @@
 //! A pan, as a list of places takes it in.
+ghost use Rattle.choices.specs.declared.limits.TheConstants.{PANS};
 ghost use Rattle.std.specs.Prelude.{◌≡◌, ◌+◌, ◌*◌, ◌^◌, ◌<◌, length, slice_index, slice_index_or};
 ghost use Rattle.halves_places.specs.declared.way.Way.{Way};
 
@@ -19,7 +20,7 @@ impl Pan {
     /// Pan `number` of `pans`, with `behind` pans behind it in the ring, at most 23.
     pub fn of(pans: Pans, number: usize, behind: usize) -> Pan
         requires within { number < length pans.weights.now }
-        requires few { behind < 24 }
+        requires few { behind < PANS }
         ensures way { (d : Way) → result.way ≡ slice_index_or pans.entry.ways.now number d }
         ensures gain { result.gain + 2 ^ behind ≡ slice_index pans.entry.weights.now number * 2 ^ 29 + 2 ^ 24 }
     {

@@ -1,4 +1,5 @@
 //! A part of the pans: the places of all its choices, sorted.
+ghost use Rattle.choices.specs.declared.limits.TheConstants.{LIMIT, PANS};
 ghost use Rattle.std.specs.Prelude.{◌≡◌, ℕ, ◌+◌, ◌-◌, ◌*◌, ◌^◌, ◌<◌, ◌≤◌, length};
 ghost use Rattle.halves_growth.specs.Part.{Part};
 
@@ -10,8 +11,8 @@ use halves_places::Pans;
 ///
 /// `weight` is at most 1,000,000 and `behind` at most 23.
 pub fn gain(weight: u32, behind: usize) -> u64
-    requires light { weight ≤ 1000000 }
-    requires few { behind < 24 }
+    requires light { weight ≤ LIMIT }
+    requires few { behind < PANS }
     ensures { result + 2 ^ behind ≡ weight * 2 ^ 29 + 2 ^ 24 }
 {
     (u64::from(weight) << 29) + (1 << 24) - (1 << behind)
@@ -19,7 +20,7 @@ pub fn gain(weight: u32, behind: usize) -> u64
 
 /// What `count` pans add to a place while all of them stay shut, with `behind` pans behind them; at most 24 in all.
 pub fn all_shut(count: usize, behind: usize) -> u64
-    requires { behind + count ≤ 24 }
+    requires { behind + count ≤ PANS }
     ensures { result ≡ 2 ^ (behind + count) - 2 ^ behind }
 {
     (1 << (behind + count)) - (1 << behind)
@@ -30,7 +31,7 @@ pub fn all_shut(count: usize, behind: usize) -> u64
 /// `behind` pans stand behind them, at most 24 in all. What is not below `to` may be left out. `es` may hold anything, with
 /// at least 2^n places for n pans; what it holds behind the entries is unspecified afterwards.
 pub fn part(pans: Pans, behind: usize, to: u64, es: &mut [u64]) -> usize
-    requires few { behind + length pans.weights.now ≤ 24 }
+    requires few { behind + length pans.weights.now ≤ PANS }
     requires room { 2 ^ length pans.weights.now ≤ length es.old }
     ensures { Part behind 0 to pans.entry.weights.now pans.entry.ways.now es.new result }
 {

@@ -1,4 +1,5 @@
 //! Two parts of the pans grown in one loop, so that the processor works on both merges at once.
+ghost use Rattle.choices.specs.declared.limits.TheConstants.{PANS};
 ghost use Rattle.std.specs.Prelude.{◌≡◌, ℕ, ◌+◌, ◌^◌, ◌≤◌, length};
 ghost use Rattle.halves_growth.specs.Entries.{Grown, Merged, Sorted};
 ghost use Rattle.halves_growth.specs.Part.{Part};
@@ -108,7 +109,7 @@ pub fn both(
     back_room: &mut [u64],
 ) -> Sizes
     requires same { length back.weights.now ≡ length front.weights.now }
-    requires few { length front.weights.now + length front.weights.now ≤ 24 }
+    requires few { length front.weights.now + length front.weights.now ≤ PANS }
     requires front_room { 2 ^ length front.weights.now ≤ length front_room.old }
     requires back_room { 2 ^ length front.weights.now ≤ length back_room.old }
     ensures front { Part (length front.entry.weights.now) 0 to front.entry.weights.now front.entry.ways.now front_room.new result.front }

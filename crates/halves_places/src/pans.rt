@@ -1,4 +1,5 @@
 //! Pans, with what may be done with each.
+ghost use Rattle.choices.specs.declared.limits.TheConstants.{LIMIT, PANS};
 ghost use Rattle.std.specs.Prelude.{◌≡◌, ℕ, ◌≤◌, length, take, drop, slice_index};
 
 use crate::way::Way;
@@ -10,9 +11,9 @@ pub struct Pans<'a> {
     pub weights: &'a [u32],
     /// What may be done with each pan.
     pub ways: &'a [Way],
-    ghost few: { length weights.now ≤ 24 },
+    ghost few: { length weights.now ≤ PANS },
     ghost paired: { length ways.now ≡ length weights.now },
-    ghost light: { (i : ℕ) → slice_index weights.now i ≤ 1000000 },
+    ghost light: { (i : ℕ) → slice_index weights.now i ≤ LIMIT },
 }
 
 impl<'a> Pans<'a> {

@@ -1,4 +1,5 @@
 //! Which entries of a part of the pans are worth keeping.
+ghost use Rattle.choices.specs.declared.limits.TheConstants.{PANS};
 ghost use Rattle.std.specs.Prelude.{◌≡◌, ℕ, ◌-◌, ◌*◌, ◌^◌, ◌<◌, ◌≤◌, slice_index};
 ghost use Rattle.halves_sieves.specs.Sieve.{Short};
 
@@ -9,7 +10,7 @@ use std::array;
 
 // The least place an entry with `opened` pans needs so that the heaviest remaining pans can still reach the least weight.
 fn short(most: &[u64; 25], bounds: Bounds, opened: usize) -> u64
-    requires { bounds.limit ≤ 24 }
+    requires { bounds.limit ≤ PANS }
     ensures within { opened ≤ bounds.limit → result ≡ (bounds.least - slice_index most.now (bounds.limit - opened)) * 2 ^ 29 }
     ensures beyond { bounds.limit < opened → result ≡ 2 ^ 64 - 1 }
 {
@@ -26,7 +27,7 @@ fn short(most: &[u64; 25], bounds: Bounds, opened: usize) -> u64
 /// From there on, the heaviest of all other pans, as many as the limit leaves, can bring it to the least weight. Counts
 /// above the limit, which is at most 24, have 2^64 - 1.
 pub fn worth(span: Span, bounds: Bounds) -> [u64; 32]
-    requires { bounds.limit ≤ 24 }
+    requires { bounds.limit ≤ PANS }
     ensures { Short bounds span.entry.pans.weights.now span.entry.skip span.entry.len result }
 {
     let weights = span.pans.weights;

@@ -1,6 +1,6 @@
 -- Rows of bags of any kind: nothing is lost, no pan waits too long, and the bags weigh enough and not too much.
 use Rattle.std.proofs.Common.{◌≡◌, ℕ, suc, ◌+◌, List, length, inl, inr, sym, refl, ap, ◌∙◌, suc-mul, arith}
-use Rattle.choices.specs.Stand.{Stand, May, total, Young}
+use Rattle.choices.specs.Stand.{Stand, May, total, NoneAbove}
 use Rattle.choices.proofs.Leaving.{nothing_lost, left_young}
 use Rattle.choices.proofs.Marked.{length_marked}
 use Rattle.engines.specs.Kinds.{Lawful}
@@ -44,7 +44,7 @@ module _ {K : Type 0} {allows : K → May} {age least top : K → ℕ} {after : 
   no_pan_waits_too_long first s k t n w f e (inl y) start = y
   no_pan_waits_too_long first s k t n w f e (inr l) start = absurd (omega arith)
   no_pan_waits_too_long first s k t n w f e y (next {k = j} {t = u} b m h) =
-      let young : Young (age j) _ = rw m.leaves (left_young (bags_paired e b) (law.sound j u m.choice m.best.allowed)) in
+      let young : NoneAbove (age j) _ = rw m.leaves (left_young (bags_paired e b) (law.sound j u m.choice m.best.allowed)) in
       rw (sym (bags_same b).0) young
 
   pub rows_lose_nothing : RowsLoseNothing allows after

@@ -6,7 +6,7 @@
 --   RowsLoseNothing     what was in the pans and what fell in is what went into bags and what is left
 use Rattle.std.specs.Prelude.{◌≡◌, ℕ, ◌+◌, ◌*◌, ◌≤◌, ◌⊎◌, length}
 use Rattle.choices.specs.Choice.{Choice}
-use Rattle.choices.specs.Stand.{Stand, May, by_rule, total, Young}
+use Rattle.choices.specs.Stand.{Stand, May, by_rule, total, NoneAbove}
 use Rattle.choices.specs.declared.rule.Rule.{Rule}
 use Rattle.order.specs.Order.{BestOf, NoneOf}
 use Rattle.laws.specs.Rows.{Bags}
@@ -18,8 +18,8 @@ OneBestOrNone =
 
 abbrev pub NoPanWaitsTooLong : {K : Type 0} → (allows : K → May) (age : K → ℕ) (after : K → (weight : ℕ) → K) → Type 0
 NoPanWaitsTooLong {K} allows age after =
-    (first : K) (s : Stand) (k : K) (t : Stand) (n w f : ℕ) → length s.ages ≡ length s.weights → (Young (age first) s.ages) ⊎ (1 ≤ n) →
-    Bags allows after first s k t n w f → Young (age first) t.ages
+    (first : K) (s : Stand) (k : K) (t : Stand) (n w f : ℕ) → length s.ages ≡ length s.weights → (NoneAbove (age first) s.ages) ⊎ (1 ≤ n) →
+    Bags allows after first s k t n w f → NoneAbove (age first) t.ages
 
 abbrev pub BagsWeighEnough : {K : Type 0} → (allows : K → May) (least top : K → ℕ) (after : K → (weight : ℕ) → K) → Type 0
 BagsWeighEnough {K} allows least top after =

@@ -40,8 +40,9 @@ fn mark(ring: Ring, forced: u32, pan: usize) -> u32
     }
 }
 
-/// Takes the pans of `taken` away from a ring, and forces those of `forced` open: bit `i` of each is pan `i`, and bits for pans
-/// that the ring doesn't have say nothing. An old pan that is taken away, or a pan that is both, leaves nothing that fits.
+/// Takes the pans of `taken` away from a ring, and forces those of `forced` open: bit `i` of each is pan `i`, and bits
+/// for pans that the ring doesn't have say nothing. An old pan that is taken away, or a pan that is both, leaves
+/// nothing that fits.
 ///
 /// Takes the time of one look over the pans.
 pub fn narrow(ring: Ring, taken: u32, forced: u32) -> Narrowed

@@ -5,10 +5,11 @@ ghost use Rattle.choices.specs.declared.limits.TheConstants.{LIMIT, PANS, WIDEST
 
 use choices::{PANS, Ring, Rule};
 
-/// A ring from which some pans were taken away, and of which others have to be opened. It owns its numbers, so it can be made
-/// and asked in a loop; nothing is allocated.
+/// A ring from which some pans were taken away, and of which others have to be opened. It owns its numbers, so it can
+/// be made and asked in a loop; nothing is allocated.
 ///
-/// Made by [`narrow`](crate::narrow). Its pans are numbered as those of the whole ring: bit `i` of a bag is the same pan.
+/// Made by [`narrow`](crate::narrow). Its pans are numbered as those of the whole ring: bit `i` of a bag is the same
+/// pan.
 #[derive(Clone, Copy)]
 pub struct Narrowed {
     /// The whole ring's rule, with an age of 1, since the ages are marks.

@@ -15,8 +15,8 @@ pub struct Seen {
     pub tally: Tally,
 }
 
-// Choices are ordered by weight, then by how many pans they open, then by the first pan that differs: the choice that opens it
-// comes first. As pan 0 is the highest bit, that is the choice whose shut pans make the smaller number.
+// Choices are ordered by weight, then by how many pans they open, then by the first pan that differs: the choice that
+// opens it comes first. As pan 0 is the highest bit, that is the choice whose shut pans make the smaller number.
 #[derive(Clone, Copy, PartialEq, Eq, PartialOrd, Ord)]
 struct Rank {
     weight: u32,
@@ -56,8 +56,9 @@ fn look_at(ring: Ring, choice: u32) -> Seen
     }
 }
 
-/// Whether choice `a` of the ring comes before choice `b`: it is lighter, or opens fewer pans of equal ones, or of these opens
-/// the first pan that differs. Looks over the pans once for each; `ahead` compares choices that were looked at before.
+/// Whether choice `a` of the ring comes before choice `b`: it is lighter, or opens fewer pans of equal ones, or of
+/// these opens the first pan that differs. Looks over the pans once for each; `ahead` compares choices that were looked
+/// at before.
 pub fn better(ring: Ring, a: u32, b: u32) -> bool
     ensures { result ≡ is_better ring.entry.weights.now (choice_of (length ring.entry.weights.now) a) (choice_of (length ring.entry.weights.now) b) }
 {

@@ -11,7 +11,7 @@ use Rattle.choices.specs.declared.rule.Rule.{Rule}
 use Rattle.choices.proofs.Choices.{fitting}
 use Rattle.choices.proofs.Leaving.{nothing_lost, left_young, left_in_order, looser_fits}
 use Rattle.choices.proofs.Numbers.{choice_from_number}
-use Rattle.halves.specs.Next.{room_for}
+use Rattle.halves.specs.Entries.{room_for}
 use Rattle.order.specs.Order.{BestBag}
 use Rattle.order.specs.declared.bag.Bag.{Bag}
 use Rattle.order.proofs.Orders.{best_is_one, no_lighter}

@@ -12,7 +12,7 @@
 use Rattle.std.specs.Prelude.{◌≡◌, ℕ, ◌+◌, ◌≤◌, true, Some, None, Option, Ok, Err, Result, IsSomeAnd}
 use Rattle.choices.specs.Choice.{Choice, weight_of}
 use Rattle.choices.specs.Numbered.{number_of}
-use Rattle.choices.specs.Stand.{Stand, InOrder, May, by_rule, left_by, total, Young, Looser}
+use Rattle.choices.specs.Stand.{Stand, InOrder, May, by_rule, left_by, total, NoneAbove, Looser}
 use Rattle.choices.specs.declared.rule.Rule.{Rule}
 use Rattle.order.specs.Order.{BestOf, NoneOf, Found}
 use Rattle.order.specs.declared.bag.Bag.{Bag}
@@ -46,7 +46,7 @@ Looked (Some f) may s (Err g) = g ≡ f
 
 pub record Kept (age : ℕ) (s : Stand) (b : Bag) (t : Stand) : Type 0 where
   pub nothing_lost : b.weight + total t.weights ≡ total s.weights
-  pub young : Young age t.ages
+  pub young : NoneAbove age t.ages
   pub ordered : InOrder t
 
 abbrev pub Keeps : (age : ℕ) → Stand → Option Bag → Stand → Type 0

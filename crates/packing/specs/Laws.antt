@@ -4,7 +4,7 @@
 use Rattle.std.specs.Prelude.{◌≡◌, ℕ, ◌≤◌, List, length, None}
 use Rattle.choices.specs.Ruled.{rule_in}
 use Rattle.choices.specs.Stand.{Stand, by_rule}
-use Rattle.halves.specs.Next.{room_for}
+use Rattle.halves.specs.Entries.{room_for}
 use Rattle.packing.specs.Entry.{Answer, Answered}
 use Rattle.packing.specs.Refusals.{Accepted, first_refusal, room_refusal}
 

@@ -23,8 +23,8 @@ fn open_pans(weights: &mut [u32], ages: &mut [u32], pans: u32)
 
 /// Makes the best bag of a kind, or none where no choice whatever is allowed: then nothing changes, the kind neither.
 ///
-/// What an entry checked is asked for: pans in order, and the kind ready for one bag of so many pans. Weights and ages are lent
-/// to be written, which a `Ring` rules out.
+/// What an entry checked is asked for: pans in order, and the kind ready for one bag of so many pans. Weights and ages
+/// are lent to be written, which a `Ring` rules out.
 pub fn pack<R, K: Kind<R>>(
     kind: &mut K,
     weights: &mut [u32],

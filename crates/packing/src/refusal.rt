@@ -1,4 +1,5 @@
 //! The checks of a rule and of lent pans, in the order of the list of refusals.
+ghost use Rattle.choices.specs.declared.limits.TheConstants.{PANS};
 ghost use Rattle.std.specs.Prelude.{◌≡◌, ℕ, ◌+◌, ◌^◌, ◌<◌, ◌≤◌, ◌++◌, length, slice_index, OnOk};
 ghost use Rattle.answers.specs.Refusals.{passed};
 ghost use Rattle.choices.specs.Ruled.{rule_in};
@@ -67,7 +68,7 @@ fn check_pans(pans: usize, ages: usize) -> Result<(), Refusal>
 
 // The weights and the ages themselves.
 fn check_numbers(weights: &[u32], ages: &[u32]) -> Result<(), Refusal>
-    requires { (length weights.now ≤ 24) × (length ages.now ≤ 24) }
+    requires { (length weights.now ≤ PANS) × (length ages.now ≤ PANS) }
     ensures { result ≡ passed (numbers_refusal (weights.now ++ ages.now)) tt }
 {
     if let Some(place) = first_above(weights, 0) {

@@ -4,7 +4,8 @@ use Rattle.answers.specs.declared.played.Played.{Played}
 use Rattle.choices.specs.Stand.{Stand, by_rule}
 use Rattle.choices.specs.declared.rule.Rule.{Rule}
 use Rattle.choices.specs.declared.limits.TheConstants.{LIMIT}
-use Rattle.engines.specs.Plain.{age_of, least_of, top_of, same_rule, rule_ready, rule_lawful}
+use Rattle.engines.specs.Plain.{age_of, least_of, top_of, same_rule, rule_ready}
+use Rattle.engines.specs.PlainLaw.{rule_lawful}
 use Rattle.packing.specs.Refusals.{Accepted}
 use Rattle.packing.proofs.Refused.{refusals_are_exact, within}
 use Rattle.seasons.specs.Season.{Plays, PlayedBy, Untouched}

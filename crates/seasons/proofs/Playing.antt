@@ -110,9 +110,9 @@ module _ {K : Type 0} {allows : K → May} {age least top : K → ℕ} {after : 
       }
 
   kept :
-      {hs : List ℕ} {first : K} {s : Stand} {k : K} {t : Stand} {j n v : ℕ} (wanted : ℕ) → InOrder s → n ≤ wanted →
-      Course allows after hs first s k t j n v → Kept age least top hs wanted first s t j n v
-  kept {first = first} {s} {k} {t} wanted o l h =
+      {hs : List ℕ} {first : K} {s : Stand} {k : K} {t : Stand} {j n v : ℕ} → InOrder s →
+      Course allows after hs first s k t j n v → Kept age least top hs first s t j n v
+  kept {first = first} {s} {k} {t} o h =
       let row = season_bags h in
       let weigh = bags_weigh_enough law first s k t _ _ _ row in
       record {
@@ -120,7 +120,7 @@ module _ {K : Type 0} {allows : K → May} {age least top : K → ℕ} {after : 
         enough = weigh.0;
         within = weigh.1;
         nothing_lost = rows_lose_nothing law first s k t _ _ _ row;
-        still = λ e. none_played h (omega (arith, e));
+        still = none_played h;
       }
 
   -- what was played keeps what is promised
@@ -134,7 +134,7 @@ module _ {K : Type 0} {allows : K → May} {age least top : K → ℕ} {after : 
         handfuls = g.handfuls;
         course = g.course;
         ends = ends;
-        kept = kept wanted o l g.course;
+        kept = λ j u i n v h. kept o h;
         ordered = λ j u i n v h. course_ordered small (law.old first (length s.weights) wanted y) o h;
         goes_on = λ j u i n v h less. course_ready wanted y h less;
       }

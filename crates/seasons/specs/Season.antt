@@ -2,7 +2,7 @@
 -- these are definitions.
 --   refilled         a stand after the list's handfuls, from a place of the list on, fell into its empty pans
 --   Course           so many bags of so much weight have been made, and so many handfuls of the list have fallen
---   Kept             what is promised of every course
+--   Kept             what is promised of a course, at every bag of it
 --   Plays            a season was played: its course, how it ended, and what is promised of it
 --   PlayedBy         the same by a rule, and what was given away: what the bags weigh above so many targets
 --   season_refusal   what a bag would be turned away for; then 3 for a handful above 1,000,000, its place behind the weights
@@ -16,7 +16,7 @@ use Rattle.answers.specs.declared.played.Played.{Played}
 use Rattle.answers.specs.declared.refusal.Refusal.{Refusal}
 use Rattle.answers.specs.declared.refusal.Refusal.TheVariants.{Number, Line}
 use Rattle.choices.specs.Ruled.{rule_in}
-use Rattle.choices.specs.Stand.{Stand, stand, InOrder, May, by_rule, total, Young}
+use Rattle.choices.specs.Stand.{Stand, stand, InOrder, May, by_rule, total, NoneAbove}
 use Rattle.choices.specs.declared.limits.TheConstants.{LIMIT}
 use Rattle.choices.specs.declared.rule.Rule.{Rule}
 use Rattle.engines.specs.Plain.{age_of, least_of, top_of, same_rule, rule_ready}
@@ -37,24 +37,24 @@ pub data Course {K : Type 0} (allows : K → May) (after : K → (weight : ℕ) 
       Course allows after hs first from k t j n v → Made (allows k) t p w u →
       Course allows after hs first from (after k w) (refilled hs (place hs 0 j) u) (j + empties u.weights) (suc n) (v + w)
 
-pub record Kept {K : Type 0} (age least top : K → ℕ) (hs : List ℕ) (wanted : ℕ) (first : K) (s t : Stand) (handfuls bags weight : ℕ) : Type 0 where
+pub record Kept {K : Type 0} (age least top : K → ℕ) (hs : List ℕ) (first : K) (s t : Stand) (handfuls bags weight : ℕ) : Type 0 where
   -- no pan's age comes above the kind's: after a bag whatever the ages were, and where they were not above it at the start
-  pub young : (Young (age first) s.ages) ⊎ (1 ≤ bags) → Young (age first) t.ages
+  pub young : (NoneAbove (age first) s.ages) ⊎ (1 ≤ bags) → NoneAbove (age first) t.ages
   -- the bags weigh enough, and not too much
   pub enough : bags * least first ≤ weight
   pub within : weight ≤ bags * top first
   -- what was there and the handfuls that fell are what went into bags and what is left
   pub nothing_lost : total s.weights + total (hands hs 0 handfuls) ≡ weight + total t.weights
   -- no bags change nothing
-  pub still : wanted ≡ 0 → t ≡ s
+  pub still : bags ≡ 0 → t ≡ s
 
 pub record Plays {K : Type 0} (allows : K → May) (age least top : K → ℕ) (after : K → (weight : ℕ) → K) (ready : K → (pans bags : ℕ) → Type 0)
     (hs : List ℕ) (wanted : ℕ) (first : K) (s : Stand) (k : K) (t : Stand) (bags weight : ℕ) (early : Bool) : Type 0 where
   pub handfuls : ℕ
   pub course : Course allows after hs first s k t handfuls bags weight
   pub ends : MatchBool early ((bags < wanted) × NoneOf (allows k t)) (bags ≡ wanted)
-  pub kept : Kept age least top hs wanted first s t handfuls bags weight
-  -- at every bag of the course the pans are in order, and the kind is ready for the bags that are left
+  -- at every bag of the course what is promised holds, the pans are in order, and the kind is ready for the bags that are left
+  pub kept : (j : K) (u : Stand) (i n v : ℕ) → Course allows after hs first s j u i n v → Kept age least top hs first s u i n v
   pub ordered : (j : K) (u : Stand) (i n v : ℕ) → Course allows after hs first s j u i n v → InOrder u
   pub goes_on : (j : K) (u : Stand) (i n v : ℕ) → Course allows after hs first s j u i n v → n ≤ wanted → ready j (length u.weights) (wanted - n)
 

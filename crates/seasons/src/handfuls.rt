@@ -3,8 +3,8 @@ ghost use Rattle.std.specs.Prelude.{◌≡◌, ◌<◌, length};
 ghost use Rattle.seasons.specs.Handfuls.{empties, filled, hands, place};
 
 // One handful into each empty pan, in the order of the pans' numbers, from a place of the list on and from its start
-// again where it is used up; answers the place of the next one. A season keeps that place from bag to bag, and it is what the
-// promise speaks of, so it is a number and not an iterator that goes round.
+// again where it is used up; answers the place of the next one. A season keeps that place from bag to bag, and it is
+// what the promise speaks of, so it is a number and not an iterator that goes round.
 fn fill(weights: &mut [u32], handfuls: &[u32], from: usize) -> usize
     requires { from < length handfuls.now }
     ensures value { result ≡ place handfuls.now from (empties weights.old) }

@@ -17,11 +17,11 @@ pub struct Run {
     pub ended_early: bool,
 }
 
-/// Makes so many bags of a kind, the best of each stand, and lets the list's handfuls fall in turn into the empty pans after
-/// each; ends early at a bag for which no choice is allowed.
+/// Makes so many bags of a kind, the best of each stand, and lets the list's handfuls fall in turn into the empty pans
+/// after each; ends early at a bag for which no choice is allowed.
 ///
-/// What an entry checked is asked for: pans in order, a kind that is ready for so many bags, no handful above `LIMIT`, and no
-/// more than `LONGEST` bags.
+/// What an entry checked is asked for: pans in order, a kind that is ready for so many bags, no handful above `LIMIT`,
+/// and no more than `LONGEST` bags.
 pub fn play<R, K: Kind<R>>(
     kind: &mut K,
     weights: &mut [u32],

@@ -14,7 +14,8 @@ use choices::Rule;
 use engines::Rooms;
 use packing::{checked, first_above};
 
-/// What is told of a season in which no bag weighs less than the target: what its bags weigh above so many targets is given away.
+/// What is told of a season in which no bag weighs less than the target: what its bags weigh above so many targets is
+/// given away.
 pub fn told(target: u32, run: Run) -> Played
     requires { run.bags * target ≤ run.weight }
     ensures bags { result.bags ≡ run.bags }
@@ -30,9 +31,9 @@ pub fn told(target: u32, run: Run) -> Played
     }
 }
 
-/// The rule of a season, in four numbers and `more` behind them, where everything is in order, or the first refusal that applies:
-/// what a bag would be turned away for (1 to 3), a handful above `LIMIT` (3, at twice the pans and its place in the list), more
-/// than `LONGEST` bags (4).
+/// The rule of a season, in four numbers and `more` behind them, where everything is in order, or the first refusal
+/// that applies: what a bag would be turned away for (1 to 3), a handful above `LIMIT` (3, at twice the pans and its
+/// place in the list), more than `LONGEST` bags (4).
 pub fn season_checked(
     rule: &[u32],
     more: usize,
@@ -57,12 +58,12 @@ pub fn season_checked(
     Ok(rule)
 }
 
-/// Plays a season of so many bags by `rule` (target, above, pans, age) in the lent rooms: each bag is the best of its stand,
-/// exactly as `bag` makes it, and then the list's handfuls fall in turn into the empty pans, until the bags are made or no
-/// choice fits.
+/// Plays a season of so many bags by `rule` (target, above, pans, age) in the lent rooms: each bag is the best of its
+/// stand, exactly as `bag` makes it, and then the list's handfuls fall in turn into the empty pans, until the bags are
+/// made or no choice fits.
 ///
-/// Weights and handfuls are in the scale's unit. What `season_checked` refuses changes nothing; once begun no bag is turned away.
-/// No room is asked for: where the fast engines have too little, the scan runs.
+/// Weights and handfuls are in the scale's unit. What `season_checked` refuses changes nothing; once begun no bag is
+/// turned away. No room is asked for: where the fast engines have too little, the scan runs.
 pub fn season(
     rule: &[u32],
     weights: &mut [u32],

@@ -1,4 +1,5 @@
 //! Rows are written in blocks of bytes, so that the processor can work on many bytes at once.
+ghost use Rattle.choices.specs.declared.limits.TheConstants.{LIMIT};
 ghost use Rattle.std.specs.Prelude.{◌≡◌, ℕ, ◌+◌, ◌-◌, ◌*◌, ◌<◌, ◌≤◌, min, length, slice_index};
 ghost use Rattle.table.specs.Rows.{joined, row_at};
 
@@ -70,7 +71,7 @@ pub fn add_block(
     second: usize,
 )
     requires room { (pad ≤ row) × ((row + 64 ≤ next) × (next + from + 64 ≤ length room.old)) }
-    requires small { (first ≤ 1000000) × (second ≤ 1000000) }
+    requires small { (first ≤ LIMIT) × (second ≤ LIMIT) }
     requires reach { pad < first + second → from + 64 ≤ pad }
     requires blank { (j : ℕ) → j < pad → slice_index room.old (row - pad + j) ≡ 255 }
     ensures same { (j : ℕ) → j < next + from → slice_index room.new j ≡ slice_index room.old j }

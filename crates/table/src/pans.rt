@@ -1,10 +1,11 @@
 //! What the pans of a ring are to the rows.
+ghost use Rattle.choices.specs.declared.limits.TheConstants.{PANS};
 ghost use Rattle.choices.specs.Numbered.{number_of};
 ghost use Rattle.exact.specs.Pans.{only_old};
 ghost use Rattle.table.specs.Pans.{old_count_of, free_at, pairs_of};
 ghost use Rattle.std.specs.Prelude.{◌≡◌, ℕ, ◌<◌, length, slice_index};
 
-use choices::Ring;
+use choices::{PANS, Ring};
 
 /// How many pairs the rows take the pans of a ring in; where their number is odd, the last pair has one pan.
 pub fn pairs(ring: Ring) -> usize
@@ -28,10 +29,10 @@ pub fn old_number(ring: Ring, old_count: u32) -> u32
 }
 
 /// The weight of each free pan; 0 for an old one and for places past the last pan.
-pub fn free_of(ring: Ring) -> [u32; 24]
-    ensures { (i : ℕ) → i < 24 → slice_index result i ≡ free_at ring.entry.rule.age ring.entry.weights.now ring.entry.ages.now i }
+pub fn free_of(ring: Ring) -> [u32; PANS]
+    ensures { (i : ℕ) → i < PANS → slice_index result i ≡ free_at ring.entry.rule.age ring.entry.weights.now ring.entry.ages.now i }
 {
-    let mut free = [0; 24];
+    let mut free = [0; PANS];
     // By index: the loop over a zip has two ends, and is not compiled to work on four pans at once.
     for pan in 0..ring.weights.len() {
         free[pan] = ring.weights[pan] * u32::from(ring.ages[pan] < ring.rule.age);

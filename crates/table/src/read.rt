@@ -1,4 +1,5 @@
 //! A ring's table in a lent room, and how a bag is read off it: first its weight, then its pans from pan 0 on.
+ghost use Rattle.choices.specs.declared.limits.TheConstants.{LIMIT, PANS};
 ghost use Rattle.std.specs.Prelude.{◌≡◌, ℕ, ◌+◌, ◌-◌, ◌*◌, ◌^◌, ◌<◌, ◌≤◌, true, cond, length, slice_index};
 ghost use Rattle.choices.specs.Choice.{bit};
 ghost use Rattle.choices.specs.Numbered.{number_of};
@@ -8,7 +9,7 @@ ghost use Rattle.table.specs.Rows.{Lightest, Reaches, Read, Rows, first_opens, r
 
 use crate::pans::pairs;
 use crate::shape::Shape;
-use choices::Ring;
+use choices::{PANS, Ring};
 
 // What a pan takes of the weight that is left.
 fn taken(opened: bool, weight: usize) -> usize
@@ -62,7 +63,7 @@ impl Table<'_, '_> {
     fn opens(self, row: usize, left: usize, first: usize, second: usize) -> (bool, bool)
         requires row { self.shape.pad + (self.shape.pad + 64 * self.shape.blocks) ≤ row }
         requires left { row + left < length self.bytes.now }
-        requires small { (first ≤ 1000000) × (second ≤ 1000000) }
+        requires small { (first ≤ LIMIT) × (second ≤ LIMIT) }
         requires reach { self.shape.pad < first + second → left < self.shape.pad }
         requires blank { (j : ℕ) → j < self.shape.pad → slice_index self.bytes.now (row - (self.shape.pad + 64 * self.shape.blocks) - self.shape.pad + j) ≡ 255 }
         ensures first { result.0 ≡ first_opens (row_at self.entry.bytes.now row) (row_at self.entry.bytes.now (row - (self.entry.shape.pad + 64 * self.entry.shape.blocks))) first second left }
@@ -84,8 +85,8 @@ impl Table<'_, '_> {
     ///
     /// Of choices of as many pans it is the one that opens the first pan that differs. `free` is what `free_of` answers, and
     /// `old_number` the choice of just the old pans. The rows hold a count for `weight`, which is within the span.
-    pub fn read(self, free: &[u32; 24], old_number: u32, weight: usize) -> u32
-        requires free { (i : ℕ) → i < 24 → slice_index free.now i ≡ free_at self.ring.rule.age self.ring.weights.now self.ring.ages.now i }
+    pub fn read(self, free: &[u32; PANS], old_number: u32, weight: usize) -> u32
+        requires free { (i : ℕ) → i < PANS → slice_index free.now i ≡ free_at self.ring.rule.age self.ring.weights.now self.ring.ages.now i }
         requires old_number { old_number ≡ number_of (only_old self.ring.rule.age self.ring.ages.now) }
         requires rows { Rows self.ring.rule.age self.ring.weights.now self.ring.ages.now weight (64 * self.shape.blocks - 1) self.shape.pad (self.shape.pad + 64 * self.shape.blocks) 0 self.bytes.now }
         requires reach { Reaches self.ring.rule.age self.ring.weights.now self.ring.ages.now self.shape.pad (64 * self.shape.blocks) }

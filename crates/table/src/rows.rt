@@ -1,4 +1,5 @@
 //! The rows of the table: for each weight the least number of free pans that weigh exactly so much.
+ghost use Rattle.choices.specs.declared.limits.TheConstants.{LIMIT, PANS};
 ghost use Rattle.std.specs.Prelude.{◌≡◌, ℕ, ◌+◌, ◌-◌, ◌*◌, ◌<◌, ◌≤◌, true, ◌≢◌, length, slice_index};
 ghost use Rattle.table.specs.Pans.{free_at, none_old_empty, pairs_of};
 ghost use Rattle.table.specs.Rows.{Reaches, Rows, joined, row_at};
@@ -8,7 +9,7 @@ use crate::blocks::{BLOCK, add_block, blank, get};
 use crate::pans::pairs;
 use crate::shape::Shape;
 use crate::survey::Survey;
-use choices::Ring;
+use choices::{PANS, Ring};
 
 // Writes the row of no pan: weight 0 takes no pan, and no other weight can be made.
 fn start_row(row: &mut [u8], pad: usize)
@@ -35,7 +36,7 @@ fn add_pair(
     requires never { (x : ℕ) → x < 64 → slice_index never x ≡ 255 }
     requires room { (shape.pad ≤ row) × (row + 64 * shape.blocks + (shape.pad + 64 * shape.blocks) ≤ length room.old) }
     requires within { high ≤ shape.blocks }
-    requires small { (first ≤ 1000000) × (second ≤ 1000000) }
+    requires small { (first ≤ LIMIT) × (second ≤ LIMIT) }
     requires reach { shape.pad < first + second → 64 * shape.blocks ≤ shape.pad }
     requires blank { (j : ℕ) → j < shape.pad → slice_index room.old (row - shape.pad + j) ≡ 255 }
     ensures same { (j : ℕ) → j < row + 64 * shape.blocks → slice_index room.new j ≡ slice_index room.old j }
@@ -56,8 +57,15 @@ fn add_pair(
 ///
 /// Each row is right from the least weight on that, with all free pans before, still reaches `from`. `seen` is the survey of
 /// the ring, in which no old pan is empty; `free` is what `free_of` answers; `room` is long enough for rows of this shape.
-pub fn fill(ring: Ring, seen: Survey, free: &[u32; 24], from: usize, shape: Shape, room: &mut [u8])
-    requires free { (i : ℕ) → i < 24 → slice_index free.now i ≡ free_at ring.rule.age ring.weights.now ring.ages.now i }
+pub fn fill(
+    ring: Ring,
+    seen: Survey,
+    free: &[u32; PANS],
+    from: usize,
+    shape: Shape,
+    room: &mut [u8],
+)
+    requires free { (i : ℕ) → i < PANS → slice_index free.now i ≡ free_at ring.rule.age ring.weights.now ring.ages.now i }
     requires seen { Surveyed ring.rule.age ring.weights.now ring.ages.now seen }
     requires old_filled { none_old_empty ring.rule.age ring.weights.now ring.ages.now ≡ true }
     requires reach { Reaches ring.rule.age ring.weights.now ring.ages.now shape.pad (64 * shape.blocks) }

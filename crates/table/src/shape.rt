@@ -1,4 +1,5 @@
 //! How a row lies in the room of a table.
+ghost use Rattle.choices.specs.declared.limits.TheConstants.{LIMIT};
 ghost use Rattle.std.specs.Prelude.{◌≡◌, ◌+◌, ◌*◌, ◌/◌, ◌≤◌};
 ghost use Rattle.table.specs.Pans.{pad_of, row_bytes, width_of};
 
@@ -35,7 +36,7 @@ impl Shape {
     ///
     /// The pad is as long as two pans can reach back, or as the blocks of a row if these are fewer.
     pub fn of(span: usize, heaviest: usize) -> Shape
-        requires { (span ≤ 50000000) × (heaviest ≤ 1000000) }
+        requires { (span ≤ 50000000) × (heaviest ≤ LIMIT) }
         ensures pad { result.pad ≡ pad_of span heaviest }
         ensures blocks { 64 * result.blocks ≡ width_of span }
     {

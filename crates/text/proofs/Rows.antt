@@ -20,7 +20,7 @@ abbrev pub spellings : List (List ℕ)
 spellings = map (λ r. r.1.now) ROWS
 
 -- a row as the code has it, with a reference to the text
-module _ (rows : List (Word × Bor (List ℕ) × Count)) (i : ℕ) (d : Word × Bor (List ℕ) × Count) (inside : i < length rows) where
+module _ (rows : List (Word × Bor (List ℕ) × Count × Bor (List ℕ))) (i : ℕ) (d : Word × Bor (List ℕ) × Count × Bor (List ℕ)) (inside : i < length rows) where
   pub row_text : map (λ r. r.1.now) rows ≡ spellings → (get_or rows i d).1.now ≡ get_or spellings i []
   row_text same = sym (get_or-map (λ r. r.1.now) rows i d [] inside) ∙ ap (λ l. get_or l i []) same
 

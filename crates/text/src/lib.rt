@@ -12,4 +12,4 @@ pub use commands::Command;
 pub use faults::Fault;
 pub use numbers::put_number;
 pub use reading::{read, reread};
-pub use words::{Count, Word};
+pub use words::{Count, ROWS, Word};

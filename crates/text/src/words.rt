@@ -1,5 +1,6 @@
 // The words that a command begins with: how each is spelled, and how many numbers it takes.
 ghost use Rattle.std.specs.Prelude.{◌≡◌, ◌≢◌, MatchResult, Some};
+ghost use Rattle.std.specs.Io.{StartsWith};
 ghost use Rattle.text.specs.Counts.{takes, takes_some};
 ghost use Rattle.text.specs.Table.{count_of, spelling};
 ghost use Rattle.text.specs.declared.faults.Fault.TheVariants.{Unreadable};
@@ -32,15 +33,51 @@ pub enum Count {
     OneAndPairs,
 }
 
-// A row for each word, in the order in which `Word` has them.
-const ROWS: [(Word, &str, Count); 7] = [
-    (Word::Rule, "rule", Count::Any),
-    (Word::Pans, "pans", Count::Any),
-    (Word::Ages, "ages", Count::Any),
-    (Word::Handfuls, "handfuls", Count::Any),
-    (Word::Bag, "bag", Count::Just(0)),
-    (Word::Fall, "fall", Count::Just(2)),
-    (Word::Bags, "bags", Count::Just(1)),
+/// A row for each word, in the order in which `Word` has them: the word, how it is spelled, how many numbers it takes, and how
+/// its command is written and what it does.
+pub const ROWS: [(Word, &str, Count, &str); 7] = [
+    (
+        Word::Rule,
+        "rule",
+        Count::Any,
+        "rule T A P O: a bag weighs at least T and at most A more, of at most P pans; who has waited O bags is in it",
+    ),
+    (
+        Word::Pans,
+        "pans",
+        Count::Any,
+        "pans W..: what lies in each pan, from pan 0 on; 0 is an empty pan",
+    ),
+    (
+        Word::Ages,
+        "ages",
+        Count::Any,
+        "ages A..: for how many bags each pan has waited",
+    ),
+    (
+        Word::Handfuls,
+        "handfuls",
+        Count::Any,
+        "handfuls W..: the list that a season takes handfuls from",
+    ),
+    (
+        Word::Bag,
+        "bag",
+        Count::Just(0),
+        "bag: makes the best bag, `open 2 3 6 7: 100`, or `none`",
+    ),
+    (
+        Word::Fall,
+        "fall",
+        Count::Just(2),
+        "fall P W: what weighs W falls into pan P, which is there and empty",
+    ),
+    (
+        Word::Bags,
+        "bags",
+        Count::Just(1),
+        "bags N: a season of N bags, at most 1000000",
+    ),
 ];
 
 impl Count {
@@ -78,6 +115,13 @@ impl Word {
     {
         ROWS.as_slice()[self as usize].2
     }
+
+    /// How the word's command is written and what it does, in a line that begins with the word.
+    pub fn usage(self) -> &'static str
+        ensures { StartsWith result.now (spelling self) }
+    {
+        ROWS.as_slice()[self as usize].3
+    }
 }
 
 impl fmt::Display for Word {
@@ -97,7 +141,7 @@ impl TryFrom<&[u8]> for Word {
 
     fn try_from(name: &[u8]) -> Result<Word, Fault> {
         let rows = ROWS.as_slice();
-        for (word, spelling, _) in rows {
+        for (word, spelling, _, _) in rows {
             if spelling.as_bytes() == name {
                 return Ok(*word);
             }

@@ -70,24 +70,37 @@ mod tests {
     #[test]
     fn replies(rt: HostRuntime) -> Result<(), Fail> {
         let heap = rt.alloc();
-        let open = Reply::from(Ok(Some(Bag {
+        let bag = Bag {
             pans: 204,
             weight: 100,
-        })));
+        };
+        let open = Reply::of_bag(Ok(Some(bag)), 2);
         printed(&rt, heap, open, "open 2 3 6 7: 100")?;
         printed(&rt, heap, Reply::None, "none")?;
         printed(
             &rt,
             heap,
-            Reply::Refused(Refusal::Number(5)),
+            Reply::refused(Refusal::Number(5), 2),
             "refused 3 at 5",
         )?;
-        let season = Reply::from(Ok(Played {
+        printed(
+            &rt,
+            heap,
+            Reply::refused(Refusal::Line, 7),
+            "refused 4 at 7",
+        )?;
+        let further = Refusal::Further {
+            number: 6,
+            place: 1,
+        };
+        printed(&rt, heap, Reply::refused(further, 7), "refused 6 at 1")?;
+        let played = Played {
             bags: 7,
             weight: 702,
             given_away: 2,
             ended_early: true,
-        }));
+        };
+        let season = Reply::of_season(Ok(played), 2);
         printed(&rt, heap, season, "bags 7: 702, 2 given away, then none")
     }
 }

@@ -6,15 +6,14 @@ use crate::case::Case;
 use crate::outcome::{Answer, Outcome};
 use crate::plain::all_tried;
 use crate::scores::Scores;
-use engines::Rooms;
-use engines::{Finder, Halves, Scan, Table};
+use engines::{Finder, Halves, Rooms, Scan, Table};
 use packing::{bag, bag_in, checked, find};
 
 // The table is asked for bags up to this weight: those of the trade, and some beyond.
 const TABLE_WEIGHT: u32 = 10_000;
 
 // What an entry answers, and what it leaves in the pans.
-fn by_entry<E: FnOnce(&mut [u32], &mut [u32]) -> Answer>(case: &Case, entry: E) -> Outcome
+pub fn by_entry<E: FnOnce(&mut [u32], &mut [u32]) -> Answer>(case: &Case, entry: E) -> Outcome
     requires { E.IsAlwaysCallable entry }
 {
     let mut weights = case.weights;
@@ -28,10 +27,10 @@ fn by_entry<E: FnOnce(&mut [u32], &mut [u32]) -> Answer>(case: &Case, entry: E) 
 }
 
 // What an engine finds; nothing where the case is turned away.
-fn by_engine<F: Finder>(case: &Case, finder: &mut F) -> Option<Answer> {
+pub fn by_engine<F: Finder>(case: &Case, finder: &mut F) -> Option<Answer> {
     let weights = case.weights();
     let ages = case.ages();
-    checked(&case.rule, weights, ages).ok()?;
+    checked(&case.rule, 0, weights, ages).ok()?;
     Some(find(&case.rule, weights, ages, finder))
 }
 
@@ -42,7 +41,7 @@ fn suits_the_table(case: &Case) -> bool {
 }
 
 // The entry over lent rooms. Entries and bytes are lent one by one, since the engines are tried with one of them each.
-fn by_entry_in(case: &Case, entries: &mut [u64], bytes: &mut [u8]) -> Outcome {
+pub fn by_entry_in(case: &Case, entries: &mut [u64], bytes: &mut [u8]) -> Outcome {
     let mut rooms = Rooms { entries, bytes };
     by_entry(case, |weights, ages| {
         bag_in(&case.rule, weights, ages, &mut rooms)

@@ -1,19 +1,17 @@
-// A case to try: a rule in numbers, and a ring of up to 12 pans.
+// A case to try: a rule in numbers, and a ring of pans.
+ghost use Rattle.choices.specs.declared.limits.TheConstants.{PANS};
 ghost use Rattle.std.specs.Prelude.{◌≤◌};
 
-pub const MOST: usize = 12;
-
-// No number of a rule, no weight and no age may be above this.
-pub const LIMIT: u32 = 1_000_000;
+use choices::PANS;
 
 // Arrays with a number beside them, so that a case is copied and none asks for memory.
 #[derive(Clone, Copy)]
 pub struct Case {
     pub rule: [u32; 4],
-    pub weights: [u32; 12],
-    pub ages: [u32; 12],
+    pub weights: [u32; PANS],
+    pub ages: [u32; PANS],
     pub pans: usize,
-    ghost few: { pans ≤ 12 },
+    ghost few: { pans ≤ PANS },
 }
 
 impl Case {

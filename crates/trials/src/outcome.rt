@@ -1,4 +1,5 @@
 // What comes of a case.
+use choices::PANS;
 use order::Bag;
 use packing::Refusal;
 
@@ -9,6 +10,6 @@ pub type Answer = Result<Option<Bag>, Refusal>;
 #[derive(Clone, Copy, PartialEq, Eq)]
 pub struct Outcome {
     pub answer: Answer,
-    pub weights: [u32; 12],
-    pub ages: [u32; 12],
+    pub weights: [u32; PANS],
+    pub ages: [u32; PANS],
 }

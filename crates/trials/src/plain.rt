@@ -1,8 +1,9 @@
 // What a bag is, in the plainest way: every choice is tried, pan i is bit i, and nothing is left out.
 ghost use Rattle.trials.specs.Same.{NoRoomLacked, SameWithoutABag};
 
-use crate::case::{Case, LIMIT};
+use crate::case::Case;
 use crate::outcome::{Answer, Outcome};
+use choices::LIMIT;
 use order::Bag;
 use packing::Refusal;
 use std::cmp::Reverse;

@@ -1,7 +1,9 @@
 // Random cases: of ties, of the trade's weights and of heavy ones, with empty and old pans, and now and then a wrong number.
+ghost use Rattle.choices.specs.declared.limits.TheConstants.{PANS};
 ghost use Rattle.std.specs.Prelude.{◌≡◌, ◌≤◌};
 
-use crate::case::{Case, LIMIT, MOST};
+use crate::case::Case;
+use choices::{LIMIT, PANS};
 
 // Numbers that look random and are the same in every run.
 #[derive(Drop)]
@@ -100,13 +102,22 @@ fn spoil(dice: &mut Dice, case: &mut Case)
     }
 }
 
-pub fn random_case(dice: &mut Dice) -> Case
+// So many pans at least, and fewer than `more` beside these.
+fn some_pans(dice: &mut Dice, least: u32, more: u32) -> usize
+    ensures some { 1 ≤ result }
+    ensures few { result ≤ PANS }
+{
+    (least.saturating_add(dice.below(more)) as usize).clamp(1, PANS)
+}
+
+// A ring of so many pans at least and fewer than `more` beside these, all of it at random.
+pub fn random_case(dice: &mut Dice, least: u32, more: u32) -> Case
     ensures { 1 ≤ result.pans }
 {
     let scale = Scale::random(dice);
-    let pans = (dice.below(12) as usize + 1).min(MOST);
-    let mut weights = [0; 12];
-    let mut ages = [0; 12];
+    let pans = some_pans(dice, least, more);
+    let mut weights = [0; PANS];
+    let mut ages = [0; PANS];
     for (w, age) in weights.iter_mut().zip(ages.iter_mut()).take(pans) {
         *w = scale.weight(dice);
         *age = dice.below(7);
@@ -122,4 +133,47 @@ pub fn random_case(dice: &mut Dice) -> Case
         spoil(dice, &mut case);
     }
     case
+}
+
+// How many pans may be opened of a large ring, so few that the scan is quick.
+fn few_pans(dice: &mut Dice, pans: usize) -> u32 {
+    if pans <= 16 {
+        dice.pick(&[3, 4, 6, 16])
+    } else {
+        dice.pick(&[2, 3, 4, 4, 4, 5])
+    }
+}
+
+// A ring of 13 to 24 pans, few of them old, with a bag in most cases.
+pub fn large_case(dice: &mut Dice) -> Case
+    ensures { 1 ≤ result.pans }
+{
+    let scale = Scale::random(dice);
+    let pans = some_pans(dice, 13, 12);
+    let mut weights = [0; PANS];
+    let mut ages = [0; PANS];
+    for (w, age) in weights.iter_mut().zip(ages.iter_mut()).take(pans) {
+        *w = scale.weight(dice);
+        *age = dice.below(30);
+    }
+    let heaviest = scale.heaviest();
+    let most = few_pans(dice, pans);
+    let target = dice.below(heaviest.saturating_mul(most.min(4)).min(LIMIT));
+    let above = dice.pick(&[0, 1, heaviest / 50, heaviest / 4]);
+    let age = dice.pick(&[27, 28, 29, 30]);
+    Case {
+        rule: [target.saturating_add(1), above, most, age],
+        weights,
+        ages,
+        pans,
+    }
+}
+
+// Handfuls of a season, as heavy as what lies in the pans.
+pub fn some_handfuls(dice: &mut Dice, case: &Case) -> [u32; 7] {
+    let mut handfuls = [0; 7];
+    for grams in handfuls.iter_mut() {
+        *grams = dice.pick(case.weights());
+    }
+    handfuls
 }

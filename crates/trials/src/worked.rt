@@ -3,6 +3,7 @@ ghost use Rattle.std.specs.Prelude.{◌≡◌};
 
 use crate::case::Case;
 use crate::outcome::Answer;
+use choices::PANS;
 use order::Bag;
 
 #[derive(Clone, Copy)]
@@ -54,11 +55,13 @@ impl Worked {
         ensures { result.pans ≡ 8 }
     {
         let rule = self.rule;
-        let mut ages = [0; 12];
+        let mut ages = [0; PANS];
         ages[1] = self.waited;
         Case {
             rule,
-            weights: [23, 31, 18, 27, 40, 12, 35, 20, 0, 0, 0, 0],
+            weights: [
+                23, 31, 18, 27, 40, 12, 35, 20, 0, 0, 0, 0, 0, 0, 0, 0, 0, 0, 0, 0, 0, 0, 0, 0,
+            ],
             ages,
             pans: 8,
         }

@@ -1,6 +1,6 @@
 -- What is left of the proof of the entries of both halves.
 use Rattle.std.proofs.Common.{◌≡◌, ℕ, ◌+◌, ◌-◌, ◌^◌, length, take, ap, ◌∙◌, arith}
-use Rattle.halves.specs.Next.{before, half_of}
+use Rattle.halves.specs.Entries.{before, half_of}
 use Rattle.halves.proofs.Cutting.{long_part, few_part, part_made, last_part}
 use Rattle.halves.proofs.Joining.{half_low}
 use Rattle.halves.proofs.halves.halved.Goals as goal

@@ -2,7 +2,7 @@
 use Rattle.std.proofs.Common.{◌≡◌, ℕ, ◌+◌, ◌-◌, length, sym, ap, arith}
 use Rattle.std.proofs.lemmas.List.{get_or_append_left}
 use Rattle.halves_growth.proofs.Fronts.{rises_front}
-use Rattle.halves.specs.Next.{before}
+use Rattle.halves.specs.Entries.{before}
 use Rattle.halves.proofs.Cutting.{long_part, few_part, half_from, part_made}
 use Rattle.halves.proofs.RoomParts.{few_tops, half_same}
 use Rattle.halves.proofs.halves.topped.Goals as goal

@@ -1,6 +1,6 @@
 -- What is left of the proof that the room for 24 pans is enough for fewer.
 use Rattle.std.proofs.Common.{◌^◌, ◌≤◌, refl, arith, pow_mono}
-use Rattle.halves.specs.Next.{half_of}
+use Rattle.halves.specs.Entries.{half_of}
 use Rattle.halves.proofs.rooms.full_room.Goals as goal
 
 pub returns : goal.returns

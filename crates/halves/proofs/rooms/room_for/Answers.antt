@@ -1,6 +1,6 @@
 -- What is left of the proof of how many entries both halves take.
 use Rattle.std.proofs.Common.{◌≡◌, ℕ, ◌^◌, ◌≤◌, ap, ◌∙◌, arith, pow_mono}
-use Rattle.halves.specs.Next.{half_of}
+use Rattle.halves.specs.Entries.{half_of}
 use Rattle.halves.proofs.rooms.room_for.Goals as goal
 
 pub returns : goal.returns

@@ -1,0 +1,4 @@
+-- The definitions that contracts cite.
+pub mod Flaws
+pub mod Reasons
+pub mod Words

@@ -1,0 +1,4 @@
+-- Lemmas.
+pub mod Known
+pub mod Cutting
+pub mod Running

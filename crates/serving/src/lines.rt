@@ -1,0 +1,26 @@
+//! The lines of a reader, one after another.
+ghost use Rattle.serving.specs.Lines.{FeedCut, NextLine};
+ghost use Rattle.std.specs.Io.Buffered.{reader_remaining};
+
+use std::io::{self, BufRead, BufReader, Read};
+
+// Takes away the line feed that a line ends with.
+fn cut_feed(line: &mut Vec<u8>)
+    ensures { FeedCut line.old.items line.new.items }
+{
+    if line.last() == Some(&b'\n') {
+        line.pop();
+    }
+}
+
+// Takes the next line, without the line feed that ends it, or finds the end of the input.
+pub(crate) fn next_line<R: Read>(input: &mut BufReader<R>, line: &mut Vec<u8>) -> io::Result<bool>
+    ensures { NextLine (reader_remaining R.remaining input.old) (reader_remaining R.remaining input.new) line.new.items result }
+{
+    line.clear();
+    if input.read_until(b'\n', line)? == 0 {
+        return Ok(false);
+    }
+    cut_feed(line);
+    Ok(true)
+}
