@@ -2,15 +2,15 @@
 #![tactic(auto)]
 
 mod entry;
+mod exactness;
 mod kind;
-mod laws;
 mod refusal;
 mod rooms;
 mod season;
 
 pub use entry::mix;
+pub use exactness::mix_refusals_are_exact;
 pub use kind::Mix;
-pub use laws::mix_refusals_are_exact;
 pub use refusal::KINDS_REFUSED;
 pub use rooms::{KEYS, MixRooms, find_mix};
 pub use season::mix_season;

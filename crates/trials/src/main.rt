@@ -7,6 +7,7 @@ mod beside;
 mod case;
 mod made_up;
 mod makes_up;
+mod mixed;
 mod outcome;
 mod plain;
 mod rings;
@@ -18,6 +19,8 @@ use beside::{Beside, try_beside};
 use engines::Rooms;
 use halves::ROOM;
 use made_up::season_agrees;
+use mixed::{Mixed, random_mixed, try_mixed};
+use mixing::MixRooms;
 use plain::all_tried;
 use rings::{Dice, large_case, random_case, some_handfuls};
 use scores::{Score, Scores};
@@ -31,6 +34,8 @@ const MIDDLE: u32 = 150;
 const LARGE: u32 = 600;
 
 const SEASONS: u32 = 500;
+
+const MIXED: u32 = 8_000;
 
 // Bytes enough for the table of every case of up to 16 pans that it is asked for.
 const BYTES: usize = 409_600;
@@ -95,6 +100,18 @@ fn try_seasons(entries: &mut [u64], bytes: &mut [u8]) -> Score {
     score
 }
 
+// Rings of up to 12 pans that have kinds.
+fn try_kinds(entries: &mut [u64]) -> Mixed {
+    let mut rooms = MixRooms { entries };
+    let mut scores = Mixed::default();
+    let mut dice = Dice::new(2028);
+    for _ in 0..MIXED {
+        let case = random_mixed(&mut dice);
+        try_mixed(&mut scores, &case, &mut rooms);
+    }
+    scores
+}
+
 // A line for each way to a bag, beside all choices.
 fn report(rt: &HostRuntime, scores: Scores) -> anyhow::Result<()> {
     println!(rt; "- the entry, by the scan: {}", scores.bag)?;
@@ -141,6 +158,16 @@ fn run(rt: &HostRuntime) -> anyhow::Result<()> {
     report(rt, try_middle(&mut entries, &mut bytes))?;
     println!(rt; "13 to 24 pans, beside the entry by the scan:")?;
     report_beside(rt, try_large(&mut entries, &mut bytes))?;
+    let mixed = try_kinds(&mut entries);
+    println!(rt;
+        "up to 12 pans of one to four kinds, beside all choices: {}",
+        mixed.all
+    )?;
+    println!(rt;
+        "- where the kinds make another bag the best: {}",
+        mixed.another
+    )?;
+    println!(rt; "- where they allow none: {}", mixed.none)?;
     let seasons = try_seasons(&mut entries, &mut bytes);
     println!(rt; "seasons of a kind of bag with a state, beside all choices: {seasons}")?;
     Ok(())

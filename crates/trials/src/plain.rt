@@ -11,15 +11,24 @@ use std::cmp::Reverse;
 // A choice that fits: the lighter one comes first; of equal ones that with fewer pans; of these that which opens the first
 // pan in which they differ, which is the larger one read from pan 0 on.
 #[derive(Clone, Copy, PartialEq, Eq, PartialOrd, Ord)]
-struct Candidate {
+pub struct Candidate {
     weight: u32,
     count: u32,
     from_pan_0: Reverse<u32>,
     opened: u32,
 }
 
+impl Candidate {
+    pub fn bag(self) -> Bag {
+        Bag {
+            pans: self.opened,
+            weight: self.weight,
+        }
+    }
+}
+
 // The choice that opens the pans in the bits of a number, where it fits.
-fn fitting(case: &Case, opened: u32) -> Option<Candidate> {
+pub fn fitting(case: &Case, opened: u32) -> Option<Candidate> {
     let [target, above, most, old] = case.rule;
     let mut weight = 0u32;
     let mut left = opened;
@@ -69,13 +78,13 @@ fn check(case: &Case) -> Result<(), Refusal>
     }
 }
 
-// What is answered, and what the pans hold afterwards.
-pub fn all_tried(case: &Case) -> Outcome
+// What an answer leaves in the pans.
+pub fn leaves(case: &Case, answer: Answer) -> Outcome
+    requires { NoRoomLacked answer }
     ensures { SameWithoutABag case.now result }
 {
     let mut weights = case.weights;
     let mut ages = case.ages;
-    let answer = answer(case);
     if let Ok(Some(bag)) = answer {
         let mut left = bag.pans;
         for (w, age) in weights.iter_mut().zip(ages.iter_mut()).take(case.pans) {
@@ -95,12 +104,16 @@ pub fn all_tried(case: &Case) -> Outcome
     }
 }
 
+// What is answered, and what the pans hold afterwards.
+pub fn all_tried(case: &Case) -> Outcome
+    ensures { SameWithoutABag case.now result }
+{
+    leaves(case, answer(case))
+}
+
 fn answer(case: &Case) -> Answer
     ensures { NoRoomLacked result }
 {
     check(case)?;
-    Ok(best(case).map(|found| Bag {
-        pans: found.opened,
-        weight: found.weight,
-    }))
+    Ok(best(case).map(|found| found.bag()))
 }

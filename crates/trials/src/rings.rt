@@ -19,7 +19,7 @@ impl Dice {
     }
 
     // The next number below n; 0 where n is 0.
-    fn below(&mut self, n: u32) -> u32 {
+    pub fn below(&mut self, n: u32) -> u32 {
         self.state = self
             .state
             .wrapping_mul(6_364_136_223_846_793_005)
@@ -29,13 +29,13 @@ impl Dice {
     }
 
     // One of a few, where there is one.
-    fn pick(&mut self, few: &[u32]) -> u32 {
+    pub fn pick(&mut self, few: &[u32]) -> u32 {
         let place = self.below(few.len().min(1000) as u32) as usize;
         few.get(place).copied().unwrap_or(0)
     }
 
     // Whether a thing that happens once in n times happens now.
-    fn once_in(&mut self, n: u32) -> bool {
+    pub fn once_in(&mut self, n: u32) -> bool {
         self.below(n) == 0
     }
 }
