@@ -14,7 +14,7 @@ use Rattle.halves_sweeps.specs.Sweep.{Triple}
 use Rattle.halves.specs.Asked.{FilledFor}
 use Rattle.halves.specs.Half.{Wanted}
 use Rattle.halves.specs.declared.filled.Halves.{Halves}
-use Rattle.halves.specs.Next.{before, half_of}
+use Rattle.halves.specs.Entries.{before, half_of}
 use Rattle.halves.proofs.Asking.{asked_back, asked_front, asked_held, asked_joined, asked_low, asked_top}
 use Rattle.halves.proofs.Joining.{Held, Joined}
 use Rattle.kinds.specs.Kinds.{in_windows, mixes}

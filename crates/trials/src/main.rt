@@ -20,7 +20,7 @@ use engines::Rooms;
 use halves::ROOM;
 use made_up::season_agrees;
 use mixed::{Mixed, random_mixed, try_mixed};
-use mixing::MixRooms;
+use mixing::{KEYS, MixRooms};
 use plain::all_tried;
 use rings::{Dice, large_case, random_case, some_handfuls};
 use scores::{Score, Scores};
@@ -100,9 +100,9 @@ fn try_seasons(entries: &mut [u64], bytes: &mut [u8]) -> Score {
     score
 }
 
-// Rings of up to 12 pans that have kinds.
-fn try_kinds(entries: &mut [u64]) -> Mixed {
-    let mut rooms = MixRooms { entries };
+// Rings of up to 12 pans that have kinds, in rooms of so many words and entries.
+fn try_kinds(keys: &mut [u32], entries: &mut [u64]) -> Mixed {
+    let mut rooms = MixRooms { keys, entries };
     let mut scores = Mixed::default();
     let mut dice = Dice::new(2028);
     for _ in 0..MIXED {
@@ -146,6 +146,17 @@ fn report_beside(rt: &HostRuntime, scores: Beside) -> anyhow::Result<()> {
     Ok(())
 }
 
+// A line for each way to a bag with so much of each kind.
+fn report_kinds(rt: &HostRuntime, way: &str, mixed: Mixed) -> anyhow::Result<()> {
+    println!(rt; "- {way}: {}", mixed.all)?;
+    println!(rt;
+        "  where the kinds make another bag the best: {}",
+        mixed.another
+    )?;
+    println!(rt; "  where they allow none: {}", mixed.none)?;
+    Ok(())
+}
+
 fn run(rt: &HostRuntime) -> anyhow::Result<()> {
     let heap = rt.alloc();
     let mut entries = vec![in heap; 0; ROOM]?;
@@ -158,16 +169,15 @@ fn run(rt: &HostRuntime) -> anyhow::Result<()> {
     report(rt, try_middle(&mut entries, &mut bytes))?;
     println!(rt; "13 to 24 pans, beside the entry by the scan:")?;
     report_beside(rt, try_large(&mut entries, &mut bytes))?;
-    let mixed = try_kinds(&mut entries);
-    println!(rt;
-        "up to 12 pans of one to four kinds, beside all choices: {}",
-        mixed.all
+    println!(rt; "up to 12 pans of one to four kinds, beside all choices:")?;
+    let mut keys = vec![in heap; 0; KEYS]?;
+    report_kinds(
+        rt,
+        "by the tables where they fit",
+        try_kinds(&mut keys, &mut entries),
     )?;
-    println!(rt;
-        "- where the kinds make another bag the best: {}",
-        mixed.another
-    )?;
-    println!(rt; "- where they allow none: {}", mixed.none)?;
+    report_kinds(rt, "by the halves", try_kinds(&mut [], &mut entries))?;
+    report_kinds(rt, "by the scan", try_kinds(&mut [], &mut []))?;
     let seasons = try_seasons(&mut entries, &mut bytes);
     println!(rt; "seasons of a kind of bag with a state, beside all choices: {seasons}")?;
     Ok(())
