@@ -12,7 +12,7 @@ import re
 import subprocess
 
 PAGES = ["README.md", os.path.join("docs", "GUIDE.md")]
-WORDS = "rule|pans|ages|bag|fall|handfuls|bags|#"
+WORDS = "rule|pans|ages|bag|fall|handfuls|bags|kinds|mix|#"
 BLOCK = re.compile(r"^```[^\n]*\n(.*?)^```[ \t]*\n", re.M | re.S)
 COMMANDS = re.compile(rf"((?:{WORDS})\b[^\n]*\n|#[^\n]*\n)+")
 PRINTS = re.compile(r"\bprints `([^`]*)`")

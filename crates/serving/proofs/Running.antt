@@ -1,5 +1,5 @@
 -- A run so far, one line more, and how it ends.
-use Rattle.std.proofs.Common.{◌≡◌, ◌∙◌, ◌⊎◌, inl, inr, ℕ, ◌+◌, arith, Bool, true, false, true≢false, List, [], ◌∷◌, ◌++◌, take, length, Option, Some, None, Result, Ok, Err, refl, sym, ap, subst, flat_map}
+use Rattle.std.proofs.Common.{◌≡◌, ◌∙◌, ◌⊎◌, inl, inr, ℕ, ◌+◌, Bool, true, false, true≢false, List, [], ◌∷◌, ◌++◌, take, length, Option, Some, None, Result, Ok, Err, refl, sym, ap, subst}
 use Rattle.std.proofs.lemmas.List.{append-nil, append_assoc, length-append}
 use Rattle.std.proofs.lemmas.List.Elements.{All-push, All-nil}
 use Rattle.std.proofs.lemmas.Grind.{flat_map-append}
@@ -9,7 +9,7 @@ use Rattle.desk.specs.Heard.{Heard}
 use Rattle.desk.specs.Kept.{State}
 use Rattle.desk.specs.declared.printed.Reply.{Reply}
 use Rattle.serving.specs.Lines.{lines_of, Left, NextLine, Whole}
-use Rattle.serving.specs.Served.{HeardAll, Session, Turned, TurnCut, NoTurn, ToTheEnd, ToARefusal, Broken, NoneRefused, Served, printed, text_of, is_refused}
+use Rattle.serving.specs.Served.{Session, Turned, TurnCut, NoTurn, ToTheEnd, ToARefusal, Broken, NoneRefused, Served, printed, text_of, is_refused}
 use Rattle.serving.specs.Served.HeardAll.{none, next}
 use Rattle.serving.specs.declared.serving.Ended.{Ended}
 use Rattle.std.specs.Prelude.{IsErr}

@@ -7,7 +7,7 @@
 --   ToTheEnd, ToARefusal, Broken   how a run ends: at the input's end, at the first line turned away, or at a failure
 --   Served      all lines were heard; or those up to the first that was turned away, where a run is to end there; or what failed
 --               is answered, and the lines so far were heard
-use Rattle.std.specs.Prelude.{◌≡◌, ◌⊎◌, ℕ, Bool, true, false, List, [], ◌∷◌, ◌++◌, length, take, All, ⊤, Some, None, Ok, Err, Option, Result, flat_map}
+use Rattle.std.specs.Prelude.{◌≡◌, ◌⊎◌, ℕ, Bool, true, false, List, [], ◌∷◌, ◌++◌, length, take, All, Some, None, Ok, Err, Option, Result, flat_map}
 use Rattle.std.specs.Io.KnownBytes.{Appends}
 use Rattle.desk.specs.Heard.{Heard}
 use Rattle.desk.specs.Kept.{State}

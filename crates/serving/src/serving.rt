@@ -44,7 +44,7 @@ fn heard(heap: Global, desk: &mut Desk, line: &[u8], number: u64) -> io::Result<
 fn explain<E: Write>(
     heap: Global,
     reasons: &mut E,
-    text: &mut Vec<u8>,
+    text: &mut String,
     line: &[u8],
     refused: Refused,
 ) -> io::Result<()> {
@@ -52,11 +52,11 @@ fn explain<E: Write>(
     let number = refused.line;
     text.clear();
     writeln!(text, "line {number}: {reason}")?;
-    put(reasons, text.as_slice())
+    put(reasons, text.as_bytes())
 }
 
 // Writes the answer to a line, and nothing where there is none.
-fn answer<W: Write>(out: &mut W, text: &mut Vec<u8>, reply: Option<Reply>) -> io::Result<()>
+fn answer<W: Write>(out: &mut W, text: &mut String, reply: Option<Reply>) -> io::Result<()>
     ensures { Written (W.contents out.old) (W.contents out.new) (printed reply) result }
 {
     let Some(reply) = reply else {
@@ -64,7 +64,7 @@ fn answer<W: Write>(out: &mut W, text: &mut Vec<u8>, reply: Option<Reply>) -> io
     };
     text.clear();
     writeln!(text, "{reply}")?;
-    put(out, text.as_slice())
+    put(out, text.as_bytes())
 }
 
 fn is_refused(reply: Option<Reply>) -> bool
@@ -84,7 +84,7 @@ fn reply_to<W: Write, E: Write>(
     reply: Option<Reply>,
     out: &mut W,
     reasons: &mut E,
-    text: &mut Vec<u8>,
+    text: &mut String,
 ) -> io::Result<()>
     ensures { Written (W.contents out.old) (W.contents out.new) (printed reply) result }
 {
@@ -111,7 +111,7 @@ fn turn<W: Write, E: Write>(
     number: u64,
     out: &mut W,
     reasons: &mut E,
-    text: &mut Vec<u8>,
+    text: &mut String,
 ) -> io::Result<bool>
     ensures { Turn line.now number (state_of desk.old) (state_of desk.new) (W.contents out.old) (W.contents out.new) result }
 {
@@ -136,7 +136,7 @@ pub fn serve<R: Read, W: Write, E: Write>(
     ensures { Served manner.strict (reader_remaining R.remaining input.old) (reader_remaining R.remaining input.new) (state_of desk.old) (state_of desk.new) (W.contents out.old) (W.contents out.new) result }
 {
     let mut line = Vec::new(heap);
-    let mut text = Vec::new(heap);
+    let mut text = String::new(heap);
     for number in 0..u64::MAX {
         if !next_line(input, &mut line)? {
             out.flush()?;

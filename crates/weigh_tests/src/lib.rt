@@ -1,7 +1,10 @@
-// Tests of the command line and of the reasons told: a crate of their own, since one with tests is proved twice.
+// Tests of the command line, of the reasons told and of streams that fail: a crate of their own, since one with tests is
+// proved twice.
 #![tactic(auto)]
 
 #[cfg(test)]
 mod reasons;
+#[cfg(test)]
+mod streams;
 #[cfg(test)]
 mod words;

@@ -1,5 +1,5 @@
 -- How each exit of the loop follows from the run so far.
-use Rattle.std.proofs.Common.{◌≡◌, ◌∙◌, true, false, true≢false, sym}
+use Rattle.std.proofs.Common.{◌≡◌, ◌∙◌, true, true≢false, sym}
 use Rattle.serving.proofs.Known.{unchanged}
 use Rattle.serving.proofs.Running.{begins, broken, broken_after, broken_within, goes_on, served_broken, to_a_refusal, took}
 use Rattle.serving.proofs.serving.serve.Goals.{else-refused-via-then-refused+else-manner, else-refused-via-else-refused}
