@@ -1,4 +1,4 @@
-//! The rows of the kinds are joined, kind by kind.
+//! The rows of the kinds are joined, kind by kind. In a joined row weights count from the least that its kinds weigh.
 ghost use Rattle.std.specs.Prelude.{◌≡◌, ℕ, ◌+◌, ◌-◌, ◌*◌, ◌<◌, ◌≤◌, ◌⊎◌, min, length, slice_index};
 ghost use Rattle.kinds_table.specs.Costs.{Lot, never};
 ghost use Rattle.kinds_table.specs.Plans.{Laid};
@@ -20,7 +20,7 @@ fn lay(sums: &mut [u32], at: usize, from: usize, blocks: usize, gain: u32)
     }
 }
 
-// The window of the first row.
+// Writes the first kind's row, from its least weight on, as the joined row of this kind alone.
 fn copy(row: &[u32], sums: &mut [u32], at: usize, span: usize)
     requires room { at + span < length sums.old }
     requires blank { (x : ℕ) → x ≤ span → slice_index sums.old (at + x) ≡ never }
@@ -32,7 +32,8 @@ fn copy(row: &[u32], sums: &mut [u32], at: usize, span: usize)
     }
 }
 
-// Joins a row.
+// Joins a kind's row, from its least weight on, with the joined row at `from`: writes the least sum of a cost of each, for
+// each weight up to `span`, from `at` on.
 fn join(row: &[u32], sums: &mut [u32], from: usize, at: usize, span: usize)
     requires room { (from + span + 16 ≤ at) × (at + span + 16 ≤ length sums.old) }
     requires blank { (x : ℕ) → x ≤ span → slice_index sums.old (at + x) ≡ never }
@@ -49,7 +50,7 @@ fn join(row: &[u32], sums: &mut [u32], from: usize, at: usize, span: usize)
     }
 }
 
-/// Joins the rows of all kinds but the last.
+/// Joins the rows of all kinds but the last, each into a joined row behind the one without it.
 pub fn join_all(plan: Plan, rows: &[u32], sums: &mut [u32])
     requires laid { Laid plan }
     requires room { (plan.wide * plan.kinds ≤ length rows.now) × (plan.wide * plan.kinds ≤ length sums.old) }

@@ -5,7 +5,9 @@ ghost use Rattle.kinds_table.specs.Rows.{Capped, back, row_at};
 
 use crate::blocks::{BLOCK, NEVER, lower};
 
-/// Takes in a pan that may be opened or stay shut.
+/// Takes in a pan that may be opened or stay shut: it weighs `weight`, at least 1, and costs `gain`.
+///
+/// The row's weight 0 stands at `row`, behind a block of `NEVER`; the row is `blocks` blocks long.
 pub fn offer(room: &mut [u32], row: usize, blocks: usize, weight: usize, gain: u32)
     requires room { (16 ≤ row) × (row + 16 * blocks ≤ length room.old) }
     requires some { 1 ≤ weight }
@@ -22,7 +24,7 @@ pub fn offer(room: &mut [u32], row: usize, blocks: usize, weight: usize, gain: u
     }
 }
 
-/// Takes in a pan that has to be opened.
+/// Takes in a pan that has to be opened: no choice without it is left in the row.
 pub fn force(room: &mut [u32], row: usize, blocks: usize, weight: usize, gain: u32)
     requires room { (16 ≤ row) × (row + 16 * blocks ≤ length room.old) }
     requires some { 1 ≤ weight }

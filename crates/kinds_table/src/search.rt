@@ -1,4 +1,4 @@
-//! The first weight that will do.
+//! The first weight that will do: the last kind's row is joined with the others weight by weight, only until one is found.
 ghost use Rattle.std.specs.Prelude.{ℕ, ◌<◌, length, slice_index};
 ghost use Rattle.kinds_table.specs.Rows.{Capped, First, Sum, cost_in};
 
@@ -17,14 +17,14 @@ fn least_sum(row: &[u32], joined: &[u32], x: usize) -> u32
     least
 }
 
-/// A weight and the least cost of a choice that weighs so much.
+/// How much more than the least of all kinds a bag weighs, and the least cost of a choice that weighs so much.
 #[derive(Clone, Copy)]
 pub struct Reached {
     pub over: usize,
     pub cost: u32,
 }
 
-/// The first weight from `from` on.
+/// The first of `from` to `span` at which the least cost is below `limit`; `None`: there is none.
 pub fn lightest(
     row: &[u32],
     joined: &[u32],

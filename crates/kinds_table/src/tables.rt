@@ -21,7 +21,8 @@ fn start(plan: Plan, rows: &mut [u32])
     }
 }
 
-// What it costs to open a pan.
+// What it costs to open a pan: 2^24 for one pan more, less the pan's own bit, which is the higher the further in front it
+// stands. So of two choices of as many pans the one that opens the first pan that differs costs less.
 fn gain(pans: usize, pan: usize) -> u32
     requires { (pan < pans) × (pans ≤ 24) }
     ensures { result ≡ 2 ^ 24 - 2 ^ (pans - 1 - pan) }
@@ -53,7 +54,7 @@ fn take_in(mixed: MixedRing, plan: Plan, rows: &mut [u32], pan: usize)
     }
 }
 
-/// Fills the rows of all kinds.
+/// Fills the rows of all kinds, side by side, the last pans first; each pan changes the row of its own kind alone.
 pub fn fill(mixed: MixedRing, plan: Plan, rows: &mut [u32])
     requires laid { Laid plan }
     requires kinds { plan.kinds ≡ length mixed.windows.now }
