@@ -32,7 +32,13 @@ fn words_and_numbers(rt: HostRuntime) -> Result<(), Fail> {
     assert!(rt; tells(&rt, "pans 1 2x", "at byte 8, no digit")?);
     assert!(rt; tells(&rt, "bag 3", "the command is bag: makes the best bag")?);
     assert!(rt; tells(&rt, "fall 1 5", "there and empty")?);
-    assert!(rt; tells(&rt, "bags 1000001", "bags N: a season of N bags, at most 1000000")?);
+    assert!(rt;
+        tells(
+            &rt,
+            "bags 1000001",
+            "bags N: a season of N bags, at most 1000000"
+        )?
+    );
     Ok(())
 }
 
@@ -62,6 +68,10 @@ fn refusals(rt: HostRuntime) -> Result<(), Fail> {
         number: 7,
         place: 3,
     };
-    assert!(rt; told(&rt, "bag", further)?.as_str().contains("refusal 7 at 3"));
+    assert!(rt;
+        told(&rt, "bag", further)?
+            .as_str()
+            .contains("refusal 7 at 3")
+    );
     Ok(())
 }
