@@ -3,7 +3,9 @@
 --   FilledFor     the halves hold every choice that fits the ring's rule
 --   FirstFitting  the choice of this place and bag fits, and none that fits comes before it from `from` on
 --   FirstFrom     the first fitting choice from `from` on; or that there is none
-use Rattle.std.specs.Prelude.{◌≡◌, ℕ, ◌+◌, ◌*◌, ◌^◌, ◌<◌, ◌≤◌, true, List, length, take, Some, None, Option, nat_lt}
+--   place_of      the place of such a choice
+--   NextOf        the place is the next that the ways of the ring's pans allow, as `Next` has it
+use Rattle.std.specs.Prelude.{◌≡◌, ℕ, ◌+◌, ◌*◌, ◌^◌, ◌<◌, ◌≤◌, true, List, length, take, max, Some, None, Option, nat_lt}
 use Rattle.std.specs.Bool.{then_some}
 use Rattle.choices.specs.Choice.{Choice, fits, weight_of}
 use Rattle.choices.specs.Numbered.{choice_from, number_of}
@@ -11,7 +13,7 @@ use Rattle.choices.specs.declared.rule.Rule.{Rule}
 use Rattle.halves_places.specs.Place.{place}
 use Rattle.halves_places.specs.Ring.{ways}
 use Rattle.halves_sweeps.specs.Sweep.{LeastOf, Together}
-use Rattle.halves.specs.Next.{Filled}
+use Rattle.halves.specs.Next.{Filled, Next}
 use Rattle.halves.specs.declared.filled.Halves.{Halves}
 use Rattle.halves.specs.declared.placed.Placed.{Placed}
 
@@ -37,3 +39,11 @@ pub record FirstFitting (r : Rule) (ws as' : List ℕ) (from : ℕ) (p : Placed)
 abbrev pub FirstFrom : Rule → (weights ages : List ℕ) → ℕ → Option Placed → Type 0
 FirstFrom r ws as' from None = (cs : Choice) → fits r ws as' cs ≡ true → place 0 ws cs < from
 FirstFrom r ws as' from (Some p) = FirstFitting r ws as' from p
+
+abbrev pub place_of : Option Placed → Option ℕ
+place_of None = None
+place_of (Some p) = Some p.place
+
+-- what fits weighs the target at least, and target and above at most
+abbrev pub NextOf : Rule → (weights ages : List ℕ) → ℕ → Option Placed → Type 0
+NextOf r ws as' from o = Next r.pans ws (ways r.age ws as') (max from (r.target * 2 ^ 29)) ((r.target + r.above + 1) * 2 ^ 29) (place_of o)

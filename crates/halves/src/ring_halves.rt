@@ -1,5 +1,5 @@
 // The halves of a ring, filled once and asked again and again.
-ghost use Rattle.halves.specs.Asked.{FilledFor, FirstFrom};
+ghost use Rattle.halves.specs.Asked.{FilledFor, FirstFrom, NextOf};
 ghost use Rattle.halves.specs.Entries.{room_for};
 ghost use Rattle.std.specs.Prelude.{◌≡◌, ◌≤◌, length};
 
@@ -59,9 +59,11 @@ impl<'a> RingHalves<'a> {
     /// The first fitting choice whose place is `from` or higher, or `None` where every fitting choice has a lower one.
     ///
     /// `next_from(0)` is the best choice of all. After `Some(placed)` the next one is `next_from(placed.place + 1)`.
-    /// Each call is one sweep over the halves; nothing is kept between calls.
+    /// Each call is one sweep over the halves; nothing is kept between calls. The place is the one that [`next`](crate::next)
+    /// finds for the ring's pans and their ways, from the target's first place on.
     pub fn next_from(self, from: u64) -> Option<Placed>
-        ensures { FirstFrom self.entry.ring.rule self.entry.ring.weights.now self.entry.ring.ages.now from result }
+        ensures fitting { FirstFrom self.entry.ring.rule self.entry.ring.weights.now self.entry.ring.ages.now from result }
+        ensures next { NextOf self.entry.ring.rule self.entry.ring.weights.now self.entry.ring.ages.now from result }
     {
         let lightest = u64::from(self.ring.rule.target) << 29;
         let place = first_place(self.halves, from.max(lightest))?;

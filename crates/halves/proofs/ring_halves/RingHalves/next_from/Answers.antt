@@ -1,9 +1,9 @@
 -- What is left of the proof of the first fitting choice from a place on.
-use Rattle.std.proofs.Common.{rules, arith}
+use Rattle.std.proofs.Common.{rules, None, Some, arith}
 use Rattle.std.proofs.Props.{props}
 use Rattle.std.proofs.Math.Logic.{∥∥₁_elim}
 use Rattle.halves_places.proofs.Rings.{length_ways}
-use Rattle.halves.proofs.Answered.{first_fitting_prop, none_from_prop, first_none, first_some, first_low}
+use Rattle.halves.proofs.Answered.{first_fitting_prop, none_from_prop, first_is_next, first_none, first_some, first_low}
 use Rattle.halves.proofs.Asking.{asked_few, asked_low, asked_apart}
 use Rattle.halves.proofs.ring_halves.RingHalves.next_from.Goals as goal
 
@@ -28,12 +28,15 @@ bag_in-requires c =
 pub returns : goal.returns
 returns c =
     let ring = c.args.self.ring in
+    let told =
     ∥∥₁_elim c.args.self.filled (first_fitting_prop ring.rule ring.weights.now ring.ages.now c.args.from _)
-    (λ f. first_some ring.rule ring.weights.now ring.ages.now ring.ordered.few ring.ordered.paired ring.ordered.light c.args.self.halves f c.args.from _ (search rules) _ _ _ c.in_ok-place.ensures c.bag_in.ensures)
+    (λ f. first_some ring.rule ring.weights.now ring.ages.now ring.ordered.few ring.ordered.paired ring.ordered.light c.args.self.halves f c.args.from _ (search rules) _ _ _ c.in_ok-place.ensures c.bag_in.ensures) in
+    record { fitting = told; next = first_is_next ring.rule ring.weights.now ring.ages.now ring.ordered.few ring.ordered.paired c.args.from (Some _) told }
 
 pub returns-in_err-place : goal.returns-in_err-place
 returns-in_err-place c =
     let ring = c.args.self.ring in
-    rw c.from_residual.ensures
-    (∥∥₁_elim c.args.self.filled (none_from_prop ring.rule ring.weights.now ring.ages.now c.args.from)
-    (λ f. first_none ring.rule ring.weights.now ring.ages.now ring.ordered.few ring.ordered.paired ring.ordered.light c.args.self.halves f c.args.from _ (search rules) c.in_err-place.ensures))
+    let told =
+    ∥∥₁_elim c.args.self.filled (none_from_prop ring.rule ring.weights.now ring.ages.now c.args.from)
+    (λ f. first_none ring.rule ring.weights.now ring.ages.now ring.ordered.few ring.ordered.paired ring.ordered.light c.args.self.halves f c.args.from _ (search rules) c.in_err-place.ensures) in
+    rw c.from_residual.ensures (record { fitting = told; next = first_is_next ring.rule ring.weights.now ring.ages.now ring.ordered.few ring.ordered.paired c.args.from None told })
