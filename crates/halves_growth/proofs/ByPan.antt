@@ -13,7 +13,7 @@ use Rattle.halves_places.specs.declared.way.Way.{Way}
 use Rattle.halves_places.proofs.Places.{length_by_ways, pow_more, place_below}
 
 -- no pan yet: the one choice of no pans
-none_of : (b r to : ℕ) (es : List ℕ) → get_or es 0 0 ≡ r → Part b r to [] [] es 1
+pub none_of : (b r to : ℕ) (es : List ℕ) → get_or es 0 0 ≡ r → Part b r to [] [] es 1
 none_of b r to es e =
     record {
       few = omega arith;
@@ -26,7 +26,7 @@ none_of b r to es e =
     one q l = let d : q ≡ 0 = omega arith in rw d (omega (arith, e))
 
 -- one pan more in front
-more_of :
+pub more_of :
     (b r r' to w : ℕ) (ws : List ℕ) (v : Way) (vs : List Way) (old es : List ℕ) (n n' gain : ℕ) →
     Part b r to ws vs old n → Grown to v gain old es n n' → length vs ≡ length ws → b + length ws < 24 →
     r' + 2 ^ (b + length ws) ≡ r → gain + 2 ^ (b + length ws) ≡ w * 2 ^ 29 + 2 ^ 24 →
