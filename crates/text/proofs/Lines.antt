@@ -1,5 +1,5 @@
 -- A line as a word and the numbers behind it.
-use Rattle.std.proofs.Common.{◌≡◌, ℕ, ◌+◌, ◌<◌, ◌≤◌, false, true≢false, IsTrue, vec_items, List, ◌∷◌, ◌++◌, map, length, get_or, take, drop, Err, sym, refl, ap, ◌∙◌, subst, ⊎_elim, arith, take-append-drop}
+use Rattle.std.proofs.Common.{◌≡◌, ℕ, ◌+◌, ◌<◌, ◌≤◌, false, true≢false, IsTrue, List, ◌∷◌, ◌++◌, map, length, get_or, take, drop, Err, sym, refl, ap, ◌∙◌, subst, ⊎_elim, arith, take-append-drop}
 use Rattle.std.proofs.ByRecursion.{All-from_get_or}
 use Rattle.std.proofs.lemmas.List.{length-map, get_or-take, length-take-le, drop_more, drop_all}
 use Rattle.std.proofs.lemmas.Bool.{cases_lt}
@@ -9,6 +9,7 @@ use Rattle.text.specs.declared.faults.Fault.TheVariants.{Unreadable, NoMemory}
 use Rattle.text.specs.declared.words.Count.{Count}
 use Rattle.text.specs.declared.words.Word.{Word}
 use Rattle.text.specs.Counts.{takes}
+use Rattle.text.specs.Held.{numbers_in}
 use Rattle.text.specs.Reading.{Passed, Says, Unwritten, Behind, Reads}
 use Rattle.text.specs.Scanning.{capped}
 use Rattle.text.specs.Table.{spelling, count_of}
@@ -26,9 +27,9 @@ same_line v w ms ns e =
     let r = same_cut Dark (spelling v) (spelling w) (spaced ms) (spaced ns) (dark_spelling v) (dark_spelling w) (no_dark_spaced ms) (no_dark_spaced ns) e in
     (same_word v w r.0, same_spaced ms ns r.1)
 
-pub same_said : (line : List ℕ) (c d : Command) → line ≡ written c.word (vec_items c.numbers) → map capped (vec_items c.numbers) ≡ vec_items c.numbers → Says line d → (d.word ≡ c.word) × (vec_items d.numbers ≡ vec_items c.numbers)
+pub same_said : (line : List ℕ) (c d : Command) → line ≡ written c.word (numbers_in c.numbers) → map capped (numbers_in c.numbers) ≡ numbers_in c.numbers → Says line d → (d.word ≡ c.word) × (numbers_in d.numbers ≡ numbers_in c.numbers)
 same_said line c d is whole says =
-    let r = same_line d.word c.word says.numbers (vec_items c.numbers) (sym says.line ∙ is) in
+    let r = same_line d.word c.word says.numbers (numbers_in c.numbers) (sym says.line ∙ is) in
     (r.0, says.kept ∙ ap (map capped) r.1 ∙ whole)
 
 -- so many numbers as are kept are not what the word takes

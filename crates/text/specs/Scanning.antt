@@ -1,11 +1,13 @@
 -- What is found where numbers stand each after a blank.
-use Rattle.std.specs.Prelude.{◌≡◌, ℕ, ◌-◌, ◌^◌, ◌<◌, ◌≤◌, min, List, [], ◌∷◌, ◌++◌, map, length, take, Ok, Err, vec_items, Option, Result, Vec, MatchOption, ◌≢◌, slice_index}
+use Rattle.std.specs.Prelude.{◌≡◌, ℕ, ◌-◌, ◌^◌, ◌<◌, ◌≤◌, min, false, List, [], ◌∷◌, ◌++◌, map, length, take, Ok, Err, vec_items, Option, Result, Vec, MatchOption, ◌≢◌, slice_index}
 use Rattle.std.specs.Borrow.{Bor}
 use Rattle.std.specs.declared.alloc.Global.{Global}
 use Rattle.std.specs.Str.Parse.{AllDigits, digits_value}
 use Rattle.std.specs.Int.{IsInRange}
+use Rattle.text.specs.declared.commands.Numbers.{Numbers}
 use Rattle.text.specs.declared.faults.Fault.{Fault}
 use Rattle.text.specs.declared.faults.Fault.TheVariants.{Unreadable, NoMemory}
+use Rattle.text.specs.Held.{is_many, numbers_in}
 use Rattle.text.specs.Written.{numeral, spaced}
 
 -- what is kept of a number in 32 bits: the largest one where it is larger
@@ -28,6 +30,10 @@ pub record Begins (bs : List ℕ) (n : ℕ) (rest : List ℕ) : Type 0 where
 
 abbrev pub NextNumber : List ℕ → Option (ℕ × Bor (List ℕ)) → Type 0
 NextNumber bs r = MatchOption r ((ns : List ℕ) → bs ≡ spaced ns → ns ≡ []) (λ x. Begins bs x.0 x.1.now)
+
+-- two numbers at most, and not in memory that was asked for; or no two at most are written so
+abbrev pub AtMostTwo : List ℕ → Option Numbers → Type 0
+AtMostTwo bs r = MatchOption r ((ns : List ℕ) → length ns ≤ 2 → bs ≢ spaced ns) (λ x. (is_many x ≡ false) × ((ns : List ℕ) × (bs ≡ spaced ns) × (numbers_in x ≡ map capped ns)))
 
 abbrev pub Listed : List ℕ → Result (Vec ℕ Global) Fault → Type 0
 Listed bs (Ok v) = (ns : List ℕ) × (bs ≡ spaced ns) × (vec_items v ≡ map capped ns)

@@ -8,7 +8,7 @@ mod reading;
 mod scanning;
 mod words;
 
-pub use commands::Command;
+pub use commands::{Command, Numbers};
 pub use faults::Fault;
 pub use numbers::put_number;
 pub use reading::{read, reread};

@@ -2,12 +2,12 @@
 ghost use Rattle.std.specs.Prelude.{◌≡◌, ℕ, ◌<◌, ◌≤◌, map, length, MatchBool, ◌≢◌, slice_index};
 ghost use Rattle.text.specs.Table.{count_of};
 ghost use Rattle.text.specs.Scanning.{capped};
-ghost use Rattle.text.specs.Reading.{Passed, Behind, Reads, Rereads};
+ghost use Rattle.text.specs.Reading.{Passed, Holds, Behind, Reads, Rereads};
 
-use crate::commands::Command;
+use crate::commands::{Command, Numbers};
 use crate::faults::Fault;
-use crate::scanning::numbers;
-use crate::words::Word;
+use crate::scanning::{at_most_two, numbers};
+use crate::words::{Count, Word};
 use std::alloc::Global;
 
 // Whether a line is empty or a comment.
@@ -26,16 +26,23 @@ fn word_end(line: &[u8]) -> usize
     line.iter().position(|b| *b == b' ').unwrap_or(line.len())
 }
 
-// The numbers behind a word, if it takes so many. A word that takes none asks for no memory.
-fn behind(heap: Global, word: Word, text: &[u8]) -> Result<Vec<u32>, Fault>
+// The numbers in a text, of which a word takes so many. Memory is asked for only where it may take more than two.
+fn held(heap: Global, count: Count, text: &[u8]) -> Result<Numbers, Fault>
+    ensures { Holds count text.now result }
+{
+    if count.takes_many() {
+        return Ok(Numbers::Many(numbers(heap, text)?));
+    }
+    at_most_two(text).ok_or(Fault::Unreadable)
+}
+
+// The numbers behind a word, if it takes so many.
+fn behind(heap: Global, word: Word, text: &[u8]) -> Result<Numbers, Fault>
     ensures { Behind (count_of word) text.now result }
 {
     let count = word.count();
-    if !count.takes_some() && !text.is_empty() {
-        return Err(Fault::Unreadable);
-    }
-    let numbers = numbers(heap, text)?;
-    if count.takes(numbers.len()) {
+    let numbers = held(heap, count, text)?;
+    if count.takes(numbers.as_slice().len()) {
         Ok(numbers)
     } else {
         Err(Fault::Unreadable)
@@ -45,7 +52,7 @@ fn behind(heap: Global, word: Word, text: &[u8]) -> Result<Vec<u32>, Fault>
 /// What a line says, given without its line end: a command, or nothing where it is empty or begins with `#`.
 ///
 /// A number above `u32::MAX` is read as `u32::MAX`. The error is `Unreadable` where the bytes are how no command is
-/// written, and `NoMemory` where there is no memory for the numbers. A word that takes no numbers asks for none.
+/// written, and `NoMemory` where there is no memory for the numbers. A word that takes at most two numbers asks for none.
 pub fn read(heap: Global, line: &[u8]) -> Result<Option<Command>, Fault>
     ensures { Reads line.now result }
 {

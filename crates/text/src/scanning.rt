@@ -1,6 +1,7 @@
 // Numbers found in a line, each after a blank.
-ghost use Rattle.text.specs.Scanning.{Figures, NextNumber, Listed};
+ghost use Rattle.text.specs.Scanning.{Figures, NextNumber, AtMostTwo, Listed};
 
+use crate::commands::Numbers;
 use crate::faults::Fault;
 use std::alloc::Global;
 
@@ -34,6 +35,25 @@ fn next(text: &[u8]) -> Option<(u32, &[u8])>
         // No number of two digits or more begins so.
         [b'0', _, ..] => None,
         _ => Some((value, rest)),
+    }
+}
+
+// At most two numbers and nothing behind them, for which no memory is asked.
+pub fn at_most_two(text: &[u8]) -> Option<Numbers>
+    ensures { AtMostTwo text.now result }
+{
+    if text.is_empty() {
+        return Some(Numbers::Zero);
+    }
+    let (first, rest) = next(text)?;
+    if rest.is_empty() {
+        return Some(Numbers::One([first]));
+    }
+    let (second, rest) = next(rest)?;
+    if rest.is_empty() {
+        Some(Numbers::Two([first, second]))
+    } else {
+        None
     }
 }
 

@@ -1,7 +1,7 @@
 // The words that a command begins with: how each is spelled, and how many numbers it takes.
 ghost use Rattle.std.specs.Prelude.{◌≡◌, ◌≢◌, MatchResult, Some};
 ghost use Rattle.std.specs.Io.{StartsWith};
-ghost use Rattle.text.specs.Counts.{takes, takes_some};
+ghost use Rattle.text.specs.Counts.{takes, takes_many, takes_some};
 ghost use Rattle.text.specs.Table.{count_of, spelling};
 ghost use Rattle.text.specs.declared.faults.Fault.TheVariants.{Unreadable};
 
@@ -104,6 +104,17 @@ impl Count {
             Count::Any => true,
             Count::NoneOrOne => numbers <= 1,
             Count::OneAndPairs => numbers % 2 == 1,
+        }
+    }
+
+    /// Whether there may be more than two.
+    pub fn takes_many(self) -> bool
+        ensures { result ≡ takes_many self }
+    {
+        match self {
+            Count::Just(k) => k > 2,
+            Count::Any | Count::OneAndPairs => true,
+            Count::NoneOrOne => false,
         }
     }
 

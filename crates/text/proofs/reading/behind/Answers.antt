@@ -6,4 +6,4 @@ use Rattle.text.proofs.reading.behind.Goals as goal
 pub returns-else-takes : goal.returns-else-takes
 returns-else-takes c =
     let read = c.in_ok-numbers.ensures in
-    not_so_many _ _ _ read.0 read.1 read.2 (rw (c.count-count.ensures, c.len.ensures ∙ c.in_ok-numbers.numbers.ok.0) at (sym c.takes.ensures ∙ c.if-takes.false))
+    not_so_many _ _ _ read.1.0 read.1.1 read.1.2 (rw (c.count-count.ensures, c.as_slice.ensures) at (sym c.takes.ensures ∙ c.if-takes.false))
