@@ -7,9 +7,10 @@
 --   ObeysMix       the same, by whether a number stands behind the word
 --   ObeysWord      a word is obeyed with its numbers, at a line
 --   Obeys          a command is obeyed
-use Rattle.std.specs.Prelude.{◌≡◌, ℕ, List, [], ◌∷◌, Some, None, vec_items, Option, slice_index}
+use Rattle.std.specs.Prelude.{◌≡◌, ℕ, List, [], ◌∷◌, Some, None, Option, slice_index}
 use Rattle.choices.specs.Stand.{stand}
 use Rattle.seasons.specs.Fall.{fall_refusal}
+use Rattle.text.specs.Held.{numbers_in}
 use Rattle.text.specs.declared.commands.Command.{Command}
 use Rattle.text.specs.declared.words.Word.{Word}
 use Rattle.text.specs.declared.words.Word.TheVariants.{Rule, Pans, Ages, Handfuls, Bag, Fall, Bags, Kinds, Mix}
@@ -69,4 +70,4 @@ ObeysWord Kinds ns l s t r = (r ≡ None) × (t ≡ record s { ring = record s.r
 ObeysWord Mix ns l s t r = ObeysMix ns l s t r
 
 abbrev pub Obeys : Command → (line : ℕ) → (before after : State) → Option Reply → Type 0
-Obeys c l s t r = ObeysWord c.word (vec_items c.numbers) l s t r
+Obeys c l s t r = ObeysWord c.word (numbers_in c.numbers) l s t r

@@ -5,7 +5,7 @@ ghost use Rattle.desk.specs.Obeys.{Obeys};
 use crate::kept::Desk;
 use crate::printed::Reply;
 use crate::replies::{bag_reply, fall_reply, mix_reply, mix_season_reply, season_reply};
-use text::{Command, Word};
+use text::{Command, Numbers, Word};
 
 /// Does what a command asks for, and answers what is printed, if anything is. The line is where the command stands,
 /// counted from 0.
@@ -13,20 +13,20 @@ pub fn obey(desk: &mut Desk, command: Command, line: u64) -> Option<Reply>
     ensures { Obeys command line (state_of desk.old) (state_of desk.new) result }
 {
     let Command { word, numbers } = command;
-    match (word, numbers.as_slice()) {
-        (Word::Rule, _) => {
+    match (word, numbers) {
+        (Word::Rule, Numbers::Many(numbers)) => {
             desk.rule = numbers;
             None
         }
-        (Word::Pans, _) => {
+        (Word::Pans, Numbers::Many(numbers)) => {
             desk.ring.pans = numbers;
             None
         }
-        (Word::Ages, _) => {
+        (Word::Ages, Numbers::Many(numbers)) => {
             desk.ring.ages = numbers;
             None
         }
-        (Word::Handfuls, _) => {
+        (Word::Handfuls, Numbers::Many(numbers)) => {
             desk.ring.handfuls = numbers;
             None
         }
@@ -38,22 +38,25 @@ pub fn obey(desk: &mut Desk, command: Command, line: u64) -> Option<Reply>
             &mut desk.bytes,
             line,
         )),
-        (Word::Fall, [pan, grams]) => fall_reply(&mut desk.ring.pans, *pan, *grams, line),
-        (Word::Bags, [bags]) => Some(season_reply(
+        (Word::Fall, Numbers::Two(numbers)) => {
+            let [pan, grams] = numbers;
+            fall_reply(&mut desk.ring.pans, pan, grams, line)
+        }
+        (Word::Bags, Numbers::One(numbers)) => Some(season_reply(
             &desk.rule,
             &mut desk.ring.pans,
             &mut desk.ring.ages,
             &desk.ring.handfuls,
-            *bags,
+            numbers[0],
             &mut desk.entries,
             &mut desk.bytes,
             line,
         )),
-        (Word::Kinds, _) => {
+        (Word::Kinds, Numbers::Many(numbers)) => {
             desk.ring.kinds = numbers;
             None
         }
-        (Word::Mix, []) => Some(mix_reply(
+        (Word::Mix, Numbers::Zero) => Some(mix_reply(
             &desk.rule,
             &mut desk.ring.pans,
             &mut desk.ring.ages,
@@ -62,13 +65,13 @@ pub fn obey(desk: &mut Desk, command: Command, line: u64) -> Option<Reply>
             &mut desk.keys,
             line,
         )),
-        (Word::Mix, [bags]) => Some(mix_season_reply(
+        (Word::Mix, Numbers::One(numbers)) => Some(mix_season_reply(
             &desk.rule,
             &mut desk.ring.pans,
             &mut desk.ring.ages,
             &desk.ring.kinds,
             &desk.ring.handfuls,
-            *bags,
+            numbers[0],
             &mut desk.entries,
             &mut desk.keys,
             line,
