@@ -25,16 +25,21 @@ fn sieve(es: &mut [u64], short: &[u64; 32]) -> usize
     left
 }
 
+// So few entries are swept over sooner than sieved (measured, see bench/).
+const FEW: usize = 64;
+
 /// Moves the entries of a span that are worth keeping to the front, still sorted, and answers how many there are.
 ///
 /// Each entry that is part of a choice within the bounds is kept. `es` is sorted. Nothing is left out where the limit is no
-/// less than the number of all pans.
+/// less than the number of all pans, nor where there are few entries.
 pub fn thin(span: Span, bounds: Bounds, es: &mut [u64]) -> usize
     requires { Rises es.old (length es.old) }
     ensures { Thinned bounds span.entry.pans.weights.now span.entry.skip span.entry.len es.old es.new (length es.old) result }
 {
-    if bounds.limit < span.pans.weights.len() as u64 {
-        sieve(es, &worth(span, bounds))
+    if es.len() > FEW && bounds.limit < span.pans.weights.len() as u64 {
+        let mut least = [0; 32];
+        worth(span, bounds, &mut least);
+        sieve(es, &least)
     } else {
         es.len()
     }

@@ -6,7 +6,6 @@ ghost use Rattle.halves_sieves.specs.Sieve.{Short};
 use crate::bounds::Bounds;
 use crate::most::with_pans;
 use crate::span::Span;
-use std::array;
 
 // The least place an entry with `opened` pans needs so that the heaviest remaining pans can still reach the least weight.
 fn short(most: &[u64; 25], bounds: Bounds, opened: usize) -> u64
@@ -22,17 +21,20 @@ fn short(most: &[u64; 25], bounds: Bounds, opened: usize) -> u64
     }
 }
 
-/// For each count of pans that an entry of a span may open, the least place that makes it worth keeping.
+/// Writes, for each count of pans that an entry of a span may open, the least place that makes it worth keeping.
 ///
 /// From there on, the heaviest of all other pans, as many as the limit leaves, can bring it to the least weight. Counts
 /// above the limit, which is at most 24, have 2^64 - 1.
-pub fn worth(span: Span, bounds: Bounds) -> [u64; 32]
+pub fn worth(span: Span, bounds: Bounds, least: &mut [u64; 32])
     requires { bounds.limit ≤ PANS }
-    ensures { Short bounds span.entry.pans.weights.now span.entry.skip span.entry.len result }
+    ensures { Short bounds span.entry.pans.weights.now span.entry.skip span.entry.len least.new }
 {
     let weights = span.pans.weights;
     let mut most = [0; 25];
     with_pans(&mut most, &weights[span.skip + span.len..]);
     with_pans(&mut most, &weights[..span.skip]);
-    array::from_fn(|opened| short(&most, bounds, opened))
+    // Written in place: an array that is answered is copied.
+    for (opened, place) in least.iter_mut().enumerate() {
+        *place = short(&most, bounds, opened);
+    }
 }

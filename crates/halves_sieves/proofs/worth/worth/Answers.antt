@@ -1,9 +1,8 @@
 -- What is left of the proof of which entries are worth keeping.
-use Rattle.std.proofs.Common.{◌≡◌, ℕ, ◌+◌, ◌-◌, ◌*◌, ◌^◌, ◌≤◌, List, [], length, get_or, take, drop, replicate, ⊎_elim, arith, rules}
+use Rattle.std.proofs.Common.{◌≡◌, ℕ, ◌+◌, ◌-◌, ◌≤◌, List, [], length, get_or, take, drop, replicate, ⊎_elim, arith}
 use Rattle.std.proofs.lemmas.List.{append-nil, length-drop, length-take, take_all, get_or-replicate, get_or_past}
 use Rattle.std.proofs.lemmas.Bool.{cases_lt}
 use Rattle.halves_sieves.specs.Sieve.{Most}
-use Rattle.choices.proofs.Made.{made_each}
 use Rattle.halves_sieves.proofs.Parts.{short_from}
 use Rattle.halves_sieves.proofs.Weighing.{most_none}
 use Rattle.halves_sieves.proofs.worth.worth.Goals as goal
@@ -27,11 +26,7 @@ with_pans-requires-2-clause-low c =
 pub returns : goal.returns
 returns c =
     let ws = c.args.span.pans.weights.now in
-    let skip = c.args.span.skip in
-    let n = skip + c.args.span.len in
-    let most = c.with_pans-2.new.most in
-    let limit = c.args.bounds.limit in
-    let P : ℕ → ℕ → Type 0 = λ x r. x ≤ limit → r ≡ (c.args.bounds.least - get_or most (limit - x) 0) * 2 ^ 29 in
-    let made = made_each c.from_fn.ensures.items P (λ x r q called. search rules) in
+    let n = c.args.span.skip + c.args.span.len in
     let behind : Most (drop n ws) c.with_pans.new.most = rw (rest n ws, append-nil (drop n ws)) at (c.with_pans.ensures.most [] (most_none (replicate 25 0))) in
-    short_from c.args.bounds ws skip c.args.span.len most c.from_fn.result c.args.span.within c.requires (c.with_pans-2.ensures.most (drop n ws) behind) (λ x l. made x 0 (omega (arith, c.requires)) l)
+    short_from c.args.bounds ws c.args.span.skip c.args.span.len c.with_pans-2.new.most c.loop-opened.least c.args.span.within c.requires (c.with_pans-2.ensures.most (drop n ws) behind)
+    (λ x l. c.loop-opened.invariant x (omega (arith, c.requires)) l)
