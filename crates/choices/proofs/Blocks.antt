@@ -1,11 +1,11 @@
 -- Blocks of numbered choices: a number with t zeros at its end heads the block of the 2 ^ t numbers from it on. Each of
 -- them opens what the head opens and some of the last t pans, and the last of them opens all that any of them opens.
-use Rattle.std.proofs.Common.{◌≡◌, ℕ, zero, suc, ◌+◌, ◌-◌, ◌*◌, ◌/◌, ◌%◌, ◌^◌, ◌<◌, ◌≤◌, Bool, true, false, cond, List, [], ◌∷◌, sym, refl, ap, ◌∙◌, inl, inr, add-zero, mul-le-mul_right, mul_assoc, mul_comm, add-mul, lt_of_mul-lt-mul_right, mul_left_comm, arith}
+use Rattle.std.proofs.Common.{◌≡◌, ℕ, zero, suc, ◌+◌, ◌-◌, ◌*◌, ◌/◌, ◌%◌, ◌^◌, ◌<◌, ◌≤◌, Bool, true, false, cond, not, ◌||◌, ltb, leb, List, [], ◌∷◌, sym, refl, ap, ◌∙◌, inl, inr, add-zero, mul-le-mul_right, mul_assoc, mul_comm, add-mul, lt_of_mul-lt-mul_right, mul_left_comm, arith}
 use native.Mathlib.Nat.{pow-succ', mul-add-div_right, zero-div}
 use lib.Count.{count_trailing_zeros, under}
 use Rattle.std.proofs.lemmas.Nat.{pow_pos, pow-add, shl-shr, shr-shr, shr_high}
-use Rattle.std.proofs.lemmas.Bool.{both_ways, cases_lt, eq-eqb, ne_eqb}
-use Rattle.choices.specs.Choice.{weight_of}
+use Rattle.std.proofs.lemmas.Bool.{both_ways, cases_lt, or_left, or_right, and_parts, and_from, eq-eqb, ne_eqb}
+use Rattle.choices.specs.Choice.{bit, weight_of, opened, none_empty, keeps_old}
 use Rattle.choices.specs.Numbered.{Opens, choice_of, odd}
 use Rattle.choices.proofs.Numbers.{odd_more}
 
@@ -15,10 +15,44 @@ part_mono false true w h = omega arith
 part_mono false false w h = omega arith
 part_mono true false w h = absurd (both_ways false refl (h refl))
 
+bit_mono : (x y : Bool) → (x ≡ true → y ≡ true) → bit x ≤ bit y
+bit_mono true true h = omega arith
+bit_mono false true h = omega arith
+bit_mono false false h = omega arith
+bit_mono true false h = absurd (both_ways false refl (h refl))
+
 pub opens_weight : (ws : List ℕ) (n a b : ℕ) → Opens a b → weight_of ws (choice_of n a) ≤ weight_of ws (choice_of n b)
 opens_weight [] n a b h = omega arith
 opens_weight (w ∷ ws) zero a b h = omega arith
 opens_weight (w ∷ ws) (suc n) a b h = omega (arith, opens_weight ws n a b h, part_mono (odd (a / 2 ^ n)) (odd (b / 2 ^ n)) w (h n))
+
+pub opens_opened : (n a b : ℕ) → Opens a b → opened (choice_of n a) ≤ opened (choice_of n b)
+opens_opened zero a b h = omega arith
+opens_opened (suc n) a b h = omega (arith, opens_opened n a b h, bit_mono (odd (a / 2 ^ n)) (odd (b / 2 ^ n)) (h n))
+
+fill_mono : (x y f : Bool) → (x ≡ true → y ≡ true) → (not y || f) ≡ true → (not x || f) ≡ true
+fill_mono false y f h e = refl
+fill_mono true y f h e = rw (h refl) at e
+
+wait_mono : (x y f : Bool) → (x ≡ true → y ≡ true) → (x || f) ≡ true → (y || f) ≡ true
+wait_mono false y f h e = or_right y f e
+wait_mono true y f h e = or_left y f (h refl)
+
+-- what opens no empty pan has no part that does
+pub opens_filled : (ws : List ℕ) (n a b : ℕ) → Opens a b → none_empty ws (choice_of n b) ≡ true → none_empty ws (choice_of n a) ≡ true
+opens_filled [] n a b h e = refl
+opens_filled (w ∷ ws) zero a b h e = refl
+opens_filled (w ∷ ws) (suc n) a b h e =
+    let p = and_parts (not (odd (b / 2 ^ n)) || leb 1 w) (none_empty ws (choice_of n b)) e in
+    and_from _ _ (fill_mono (odd (a / 2 ^ n)) (odd (b / 2 ^ n)) (leb 1 w) (h n) p.0) (opens_filled ws n a b h p.1)
+
+-- what has every old pan in it is part of nothing that leaves one out
+pub opens_waited : (old : ℕ) (as' : List ℕ) (n a b : ℕ) → Opens a b → keeps_old old as' (choice_of n a) ≡ true → keeps_old old as' (choice_of n b) ≡ true
+opens_waited old [] n a b h e = refl
+opens_waited old (w ∷ as') zero a b h e = refl
+opens_waited old (w ∷ as') (suc n) a b h e =
+    let p = and_parts (odd (a / 2 ^ n) || ltb w old) (keeps_old old as' (choice_of n a)) e in
+    and_from _ _ (wait_mono (odd (a / 2 ^ n)) (odd (b / 2 ^ n)) (ltb w old) (h n) p.0) (opens_waited old as' n a b h p.1)
 
 -- ---- the bits of a block's numbers
 even : (a : ℕ) → odd (2 * a) ≡ false
@@ -101,12 +135,29 @@ sum_apart (x ∷ xs) (suc n) q t r l = omega (arith, sum_apart xs n q t r l, her
           | inr h ↦ rw (no_bit t r n l h, high_bit q t r n l h, ← high_bit q t 0 n (pow_pos t) h, add-zero (q * 2 ^ t)) (omega arith)
         ]
 
+pub head_opens : (q t r : ℕ) → r < 2 ^ t → Opens (q * 2 ^ t) (q * 2 ^ t + r)
+head_opens q t r l i b =
+    elim (cases_lt i t) [
+      | inl h ↦ absurd (both_ways (odd (q * 2 ^ t / 2 ^ i)) (head_bit q t i h) b)
+      | inr h ↦ ap odd (high_bit q t r i l h ∙ sym (rw (zero_end (q * 2 ^ t)) at (high_bit q t 0 i (pow_pos t) h))) ∙ b
+    ]
+  where
+    zero_end : (x : ℕ) → x + 0 ≡ x
+    zero_end x = omega arith
+
 pub last_opens : (q t r : ℕ) → r < 2 ^ t → Opens (q * 2 ^ t + r) (q * 2 ^ t + (2 ^ t - 1))
 last_opens q t r l i b =
     elim (cases_lt i t) [
       | inl h ↦ last_bit q t i h
       | inr h ↦ ap odd (high_bit q t (2 ^ t - 1) i (omega (arith, pow_pos t)) h ∙ sym (high_bit q t r i l h)) ∙ b
     ]
+
+-- a block lies between its head and its last
+pub between : (k t q j : ℕ) → k ≡ q * 2 ^ t → k ≤ j → j < k + 2 ^ t → Opens k j × Opens j (k + 2 ^ t - 1)
+between k t q j e l h =
+    let r : j ≡ q * 2 ^ t + (j - k) = omega arith in
+    let last : k + 2 ^ t - 1 ≡ q * 2 ^ t + (2 ^ t - 1) = omega (arith, pow_pos t) in
+    (rw (e, r) (head_opens q t (j - k) (omega arith)), rw (last, r) (last_opens q t (j - k) (omega arith)))
 
 -- a number is a multiple of 2 to the power of the zeros at its end
 pub zeros_multiple : (k n t : ℕ) → t ≤ count_trailing_zeros k n → (q : ℕ) × (n ≡ q * 2 ^ t)
