@@ -1,5 +1,5 @@
 -- Where nothing is turned away everything is in order, and the first number above a limit in two lists.
-use Rattle.std.proofs.Common.{◌≡◌, ℕ, zero, suc, ◌+◌, ◌<◌, ◌≤◌, Bool, true, false, cond, ◌&&◌, eqb, leb, List, [], ◌∷◌, ◌++◌, length, get_or, Some, None, MatchOption, Option, Ok, sym, refl, ap, ◌∙◌, arith}
+use Rattle.std.proofs.Common.{◌≡◌, ℕ, zero, suc, ◌+◌, ◌<◌, ◌≤◌, Bool, true, false, cond, ◌&&◌, eqb, leb, List, [], ◌∷◌, ◌++◌, length, get_or, take, drop, take-append-drop, Some, None, MatchOption, Option, Ok, sym, refl, ap, ◌∙◌, arith}
 use Rattle.std.specs.List.{AllWithin, HoldsAt}
 use Rattle.std.specs.Option.{option_map}
 use Rattle.std.proofs.lemmas.Bool.{leb-true, eqb-true, eq-eqb, and_parts, lt-leb, le-leb}
@@ -20,6 +20,10 @@ first_above_append m i (x ∷ xs) ys = at (leb x m) (first_above_append m (i + 1
         cond b (first_above m (i + 1) (xs ++ ys)) (Some i) ≡ or_else (cond b (first_above m (i + 1) xs) (Some i)) (first_above m (i + suc (length xs)) ys)
     at true h = h ∙ ap (λ (k : ℕ). or_else (first_above m (i + 1) xs) (first_above m k ys)) {y = i + suc (length xs)} (omega arith)
     at false h = refl
+
+-- the same of a list that is cut in two
+pub first_above_parts : (m i n : ℕ) (xs front back : List ℕ) → front ≡ take n xs → back ≡ drop n xs → first_above m i xs ≡ or_else (first_above m i front) (first_above m (i + length front) back)
+first_above_parts m i n xs front back f b = rw (f, b) (ap (first_above m i) (sym (take-append-drop n xs)) ∙ first_above_append m i (take n xs) (drop n xs))
 
 -- no number is above the limit, or the first that is stands at a place
 pub first_above_by : (m i : ℕ) (xs : List ℕ) (r : Option ℕ) →

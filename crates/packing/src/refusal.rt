@@ -21,10 +21,9 @@ fn largest(numbers: &[u32]) -> u32
     most
 }
 
-/// The place of the first number above `LIMIT`, counted from `from` on; none where there is no such number.
-///
-/// The largest number decides whether there is one, since it is found for several numbers at once.
-pub fn first_above(numbers: &[u32], from: u64) -> Option<u64>
+// The place of the first number above `LIMIT`, counted from `from` on. The largest number decides whether there is one,
+// since it is found for several numbers at once.
+fn first_of_part(numbers: &[u32], from: u64) -> Option<u64>
     requires { from + length numbers.now < 2 ^ 64 }
     ensures { result ≡ first_above LIMIT from numbers.now }
 {
@@ -33,6 +32,29 @@ pub fn first_above(numbers: &[u32], from: u64) -> Option<u64>
     }
     let place = numbers.iter().position(|x| *x > LIMIT)?;
     Some(from + place as u64)
+}
+
+// So many numbers are gone over before it is asked whether one of them is above the limit.
+const PART: usize = 1024;
+
+/// The place of the first number above `LIMIT`, counted from `from` on; none where there is no such number.
+///
+/// Hardly a thousand numbers are read behind the one that is found.
+pub fn first_above(numbers: &[u32], from: u64) -> Option<u64>
+    requires { from + length numbers.now < 2 ^ 64 }
+    ensures { result ≡ first_above LIMIT from numbers.now }
+{
+    let mut rest = numbers;
+    let mut at = from;
+    while !rest.is_empty() {
+        let (part, more) = rest.split_at(rest.len().min(PART));
+        if let Some(place) = first_of_part(part, at) {
+            return Some(place);
+        }
+        at += part.len() as u64;
+        rest = more;
+    }
+    None
 }
 
 // A rule in four numbers and `more` behind them: there are so many, none is too large, and the target is not 0.

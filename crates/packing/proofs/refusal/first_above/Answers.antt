@@ -1,19 +1,19 @@
--- What is left of the proof of the first number above the limit.
-use Rattle.std.proofs.Common.{arith, ◌<◌, ◌≤◌, sym, ◌∙◌, rules, Some, None}
-use borrow.Author.Tests.{tests}
-use Rattle.std.proofs.lemmas.Iterator.{YieldsList-from_slice, IsFirst-from_position}
-use Rattle.packing.proofs.Refused.{first_above_by, none_below}
+-- The first number above the limit stands in the part that is looked at, or behind it.
+use Rattle.std.proofs.Common.{◌≡◌, ◌+◌, None, length, sym, ap, ◌∙◌, arith}
+use Rattle.answers.specs.Refusals.{or_else}
+use Rattle.packing.specs.Refusals.{first_above}
+use Rattle.packing.proofs.Refused.{first_above_parts}
 use Rattle.packing.proofs.refusal.first_above.Goals as goal
 
-pub returns-then-largest-le-LIMIT : goal.returns-then-largest-le-LIMIT
-returns-then-largest-le-LIMIT c = sym (none_below 1000000 c.args.from c.args.numbers.now (λ i. omega (arith, c.largest.ensures.most i, c.if-largest-le-LIMIT.true)))
+pub loop-rest-preserved : goal.loop-rest-preserved
+loop-rest-preserved c =
+    let cut = c.split_at.ensures in
+    let behind = first_above 1000000 (c.loop-rest.at + length c.split_at.result.0.now) c.split_at.result.1.now in
+    let none : first_above 1000000 c.loop-rest.at c.split_at.result.0.now ≡ None = sym c.first_of_part.ensures ∙ c.in_default.is in
+    (c.loop-rest.invariant.0 ∙ first_above_parts _ _ _ _ _ _ cut.front cut.back ∙ ap (λ o. or_else o behind) none, omega (arith, c.loop-rest.invariant.1, cut.front_len, cut.back_len))
 
-pub returns-in_err-place : goal.returns-in_err-place
-returns-in_err-place c =
-    let h = IsFirst-from_position _ _ c.position.result (λ x. 1000000 < x) (λ x. x ≤ 1000000) c.position.ensures.ran (YieldsList-from_slice c.args.numbers.now cc) (λ x q k. search (rules, tests)) (λ x q k. search (rules, tests)) in
-    c.from_residual.ensures ∙ sym (first_above_by 1000000 c.args.from c.args.numbers.now None (rw c.in_err-place.was at h))
-
-pub returns : goal.returns
-returns c =
-    let h = IsFirst-from_position _ _ c.position.result (λ x. 1000000 < x) (λ x. x ≤ 1000000) c.position.ensures.ran (YieldsList-from_slice c.args.numbers.now cc) (λ x q k. search (rules, tests)) (λ x q k. search (rules, tests)) in
-    sym (first_above_by 1000000 c.args.from c.args.numbers.now (Some c.in_ok-place.place) (rw c.in_ok-place.was at h))
+pub returns-in-Some : goal.returns-in-Some
+returns-in-Some c =
+    let cut = c.split_at.ensures in
+    let behind = first_above 1000000 (c.loop-rest.at + length c.split_at.result.0.now) c.split_at.result.1.now in
+    sym (c.loop-rest.invariant.0 ∙ first_above_parts _ _ _ _ _ _ cut.front cut.back ∙ ap (λ o. or_else o behind) (sym c.first_of_part.ensures ∙ c.in-Some.is))
