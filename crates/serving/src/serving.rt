@@ -30,6 +30,10 @@ pub enum Ended {
     AtRefusal,
 }
 
+// No answer takes more bytes, so none has to wait for memory: 24 pans with a weight, or a season's three numbers, take fewer
+// than 80 with the line feed.
+const LONGEST: usize = 128;
+
 // What a line asks for is done and answered. There was no memory for the line's numbers where it fails.
 fn heard(heap: Global, desk: &mut Desk, line: &[u8], number: u64) -> io::Result<Option<Reply>>
     ensures { HeardSo line.now number (state_of desk.old) (state_of desk.new) result }
@@ -136,7 +140,7 @@ pub fn serve<R: Read, W: Write, E: Write>(
     ensures { Served manner.strict (reader_remaining R.remaining input.old) (reader_remaining R.remaining input.new) (state_of desk.old) (state_of desk.new) (W.contents out.old) (W.contents out.new) result }
 {
     let mut line = Vec::new(heap);
-    let mut text = String::new(heap);
+    let mut text = String::with_capacity(heap, LONGEST)?;
     for number in 0..u64::MAX {
         if !next_line(input, &mut line)? {
             out.flush()?;

@@ -8,8 +8,11 @@ use Rattle.serving.proofs.serving.serve.Goals as goal
 pub loop-number-init : goal.loop-number-init
 loop-number-init g c = begins _ _ _ _
 
+pub returns-in_err-text : goal.returns-in_err-text
+returns-in_err-text g c = served_broken _ _ _ _ _ _ _ c.from_residual.result c.from_residual.ensures.0 (broken (begins true _ _ _) _ (unchanged _))
+
 pub returns-in_err-next_line : goal.returns-in_err-next_line
-returns-in_err-next_line g c = served_broken _ _ _ _ _ _ _ c.from_residual.result c.from_residual.ensures.0 (broken c.loop-number.invariant _ (unchanged _))
+returns-in_err-next_line g c = served_broken _ _ _ _ _ _ _ c.from_residual-in_err-next_line.result c.from_residual-in_err-next_line.ensures.0 (broken c.loop-number.invariant _ (unchanged _))
 
 pub returns-in_err-flush : goal.returns-in_err-flush
 returns-in_err-flush g c = served_broken _ _ _ _ _ _ _ c.from_residual-in_err-flush.result c.from_residual-in_err-flush.ensures.0 (broken c.loop-number.invariant _ c.flush.ensures.bytes)
