@@ -1,4 +1,4 @@
--- Five reasons to skip the rest of a block of choices, and what that means for the search.
+-- Five reasons to skip the rest of a block of choices, and what that means for the search; and one to skip all.
 use Rattle.std.proofs.Common.{◌≡◌, ℕ, ◌+◌, ◌-◌, ◌*◌, ◌/◌, ◌%◌, ◌^◌, ◌<◌, ◌≤◌, Bool, true, false, List, length, sym, refl, ◌∙◌, arith}
 use Rattle.std.proofs.lemmas.Bool.{eqb-true}
 use Rattle.std.proofs.lemmas.Nat.{pow_pos, div-add-mod'}
@@ -73,6 +73,25 @@ module _ (r : Rule) (ws as' : List ℕ) (head t most : ℕ) (block : head % 2 ^ 
       let cs = choice_of (length ws) j in
       let all = eqb-true _ _ (sym (keeps_old_is r.age as' cs (length_choice_of (length ws) j ∙ sym e)) ∙ (fitting r ws as' cs f).old_opened) in
       absurd (omega (arith, sum_last ws head t j block a b (old_ones r.age as') (length ws), all))
+
+-- where all pans together are too light, no choice fits
+pub too_light :
+    (r : Rule) (ws as' : List ℕ) → weight_of ws (choice_of (length ws) (2 ^ length ws - 1)) < r.target →
+    (k : ℕ) → k < 2 ^ length ws → fits r ws as' (choice_of (length ws) k) ≡ false
+too_light r ws as' h k l = at (fits r ws as' (choice_of n k)) refl
+  where
+    n : ℕ
+    n = length ws
+
+    none : (m : ℕ) → 0 * 2 ^ n + m ≡ m
+    none m = omega arith
+
+    least : weight_of ws (choice_of n k) ≤ weight_of ws (choice_of n (2 ^ n - 1))
+    least = rw (none k, none (2 ^ n - 1)) at (opens_weight ws n _ _ (last_opens 0 n k l))
+
+    at : (b : Bool) → fits r ws as' (choice_of n k) ≡ b → fits r ws as' (choice_of n k) ≡ false
+    at false e = e
+    at true e = absurd (omega (arith, least, (fitting r ws as' _ e).enough))
 
 module _ (r : Rule) (ws as' : List ℕ) (most j : ℕ) where
   -- a choice heavier than target + above does not fit

@@ -1,4 +1,5 @@
 -- The definitions that contracts cite.
 pub mod Block
 pub mod Groups
+pub mod Numbers
 pub mod Sought

@@ -1,20 +1,22 @@
 //! The search of a ring: its candidates are the choices of its pans, and those that fit its rule are allowed.
-ghost use Rattle.std.specs.Prelude.{◌≡◌, ℕ, ◌+◌, ◌%◌, ◌^◌, ◌<◌, ◌≤◌, true, length};
+ghost use Rattle.std.specs.Prelude.{◌≡◌, ℕ, ◌+◌, ◌%◌, ◌^◌, ◌<◌, ◌≤◌, true, length, slice_index_or};
 ghost use Rattle.choices.specs.Choice.{fits as fits_rule};
 ghost use Rattle.choices.specs.Numbered.{choice_of};
-ghost use Rattle.choices.specs.Tallied.{Tallied};
+ghost use Rattle.choices.specs.Tallied.{Tallied, old_count_of};
 ghost use Rattle.search.specs.Block.{Useless};
+ghost use Rattle.search.specs.Groups.{nothing};
+ghost use Rattle.search.specs.Numbers.{SoughtOf};
 ghost use Rattle.order.proofs.Orders.{ranks_better};
 ghost use Rattle.order.specs.Order.{Found, better as is_better};
 
 use crate::criterion::Criterion;
 use crate::scan::search;
-use crate::tallies::Tallies;
-use choices::{Ring, number, weight};
+use crate::tallies::{Lent, Tallies, fill};
+use choices::{Ring, Tally, look, number, weight};
 use order::{Bag, Seen, ahead};
 
 /// Candidate `k` is the choice in the bits of `k`, with pan 0 in the highest of the ring's bits.
-impl<'a> Criterion for Tallies<'a> {
+impl<'a> Criterion for Lent<'a> {
     ghost count = { λ s. 2 ^ length s.ring.weights.now };
 
     ghost allows = { λ s k. fits_rule s.ring.rule s.ring.weights.now s.ring.ages.now (choice_of (length s.ring.weights.now) k) };
@@ -50,8 +52,34 @@ impl<'a> Criterion for Tallies<'a> {
     }
 }
 
+impl<'a> Criterion for Tallies<'a> {
+    ghost count = { λ s. 2 ^ length s.ring.weights.now };
+
+    ghost allows = { λ s k. fits_rule s.ring.rule s.ring.weights.now s.ring.ages.now (choice_of (length s.ring.weights.now) k) };
+
+    ghost beats = { λ s a b. is_better s.ring.weights.now (choice_of (length s.ring.weights.now) a) (choice_of (length s.ring.weights.now) b) };
+
+    ghost ranks = { λ s. ranks_better s.ring.weights.now (length s.ring.weights.now) };
+
+    fn count(&self) -> u64 {
+        self.lent().count()
+    }
+
+    fn allows(&self, k: u64) -> bool {
+        self.lent().allows(k)
+    }
+
+    fn beats(&self, a: u64, b: u64) -> bool {
+        self.lent().beats(a, b)
+    }
+
+    fn after(&self, k: u64, best: Option<u64>) -> u64 {
+        self.lent().after(k, best)
+    }
+}
+
 // What the order compares of candidate `k`.
-fn seen_of(tallies: &Tallies, k: u64) -> Seen
+fn seen_of(tallies: &Lent, k: u64) -> Seen
     requires { k < 2 ^ length tallies.now.ring.weights.now }
     ensures chosen { result.choice ≡ k }
     ensures tallied { Tallied tallies.now.ring.weights.now tallies.now.ring.ages.now tallies.now.ring.rule.age (choice_of (length tallies.now.ring.weights.now) k) result.tally }
@@ -64,7 +92,7 @@ fn seen_of(tallies: &Tallies, k: u64) -> Seen
 
 // True if the rest of the block can be skipped: its head is already too heavy or at the pan limit or opens an empty pan,
 // or its fullest choice is too light or leaves an old pan shut.
-fn useless(tallies: &Tallies, head: u64, free: u32, most: u32) -> bool
+fn useless(tallies: &Lent, head: u64, free: u32, most: u32) -> bool
     requires { (head % 2 ^ free ≡ 0) × (head + 2 ^ free ≤ 2 ^ length tallies.now.ring.weights.now) }
     ensures { result ≡ true → Useless tallies.now.ring.rule tallies.now.ring.weights.now tallies.now.ring.ages.now head free most }
 {
@@ -77,6 +105,36 @@ fn useless(tallies: &Tallies, head: u64, free: u32, most: u32) -> bool
     whole.weight < rule.target || whole.old < tallies.old_count
 }
 
+// The number of the best choice. The tallies are made in `groups`, where all entries are the default before.
+fn number_in(ring: Ring, old_count: u32, groups: &mut [Tally]) -> Option<u64>
+    requires old { old_count ≡ old_count_of ring.rule.age ring.ages.now }
+    requires one { 64 ≤ length groups.old }
+    requires all { 6 < length ring.weights.now → 256 ≤ length groups.old }
+    requires blank { (i : ℕ) → slice_index_or groups.old i nothing ≡ nothing }
+    ensures { SoughtOf ring.entry result }
+{
+    fill(ring, groups);
+    search(&Lent {
+        ring,
+        old_count,
+        groups,
+    })
+}
+
+// The number of the best choice. Up to six pans are one group, and their tallies are made in a quarter of the room.
+fn best_number(ring: Ring, old_count: u32) -> Option<u64>
+    requires { old_count ≡ old_count_of ring.rule.age ring.ages.now }
+    ensures { SoughtOf ring.entry result }
+{
+    if ring.weights.len() <= 6 {
+        let mut group = [Tally::default(); 64];
+        number_in(ring, old_count, &mut group)
+    } else {
+        let mut groups = [Tally::default(); 256];
+        number_in(ring, old_count, &mut groups)
+    }
+}
+
 /// The best bag of a ring, or `None` where no choice of its pans fits its rule.
 ///
 /// Goes through the choices in the order of their numbers, pan 0 in the highest bit, and skips each block of them that
@@ -85,7 +143,11 @@ fn useless(tallies: &Tallies, head: u64, free: u32, most: u32) -> bool
 pub fn best(ring: Ring) -> Option<Bag>
     ensures { Found (fits_rule ring.entry.rule ring.entry.weights.now ring.entry.ages.now) ring.entry.weights.now result }
 {
-    let k = search(&Tallies::of(ring))? as u32;
+    let all = look(ring, (1u32 << ring.weights.len()) - 1);
+    if all.weight < ring.rule.target {
+        return None;
+    }
+    let k = best_number(ring, all.old)? as u32;
     Some(Bag {
         pans: number(ring, k),
         weight: weight(ring, k),

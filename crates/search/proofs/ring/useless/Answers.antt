@@ -2,7 +2,7 @@
 use Rattle.std.proofs.Common.{◌≡◌, ℕ, ◌+◌, ◌-◌, ◌*◌, ◌%◌, ◌^◌, ◌≤◌, length, arith}
 use Rattle.std.proofs.lemmas.Nat.{one_shl, pow_pos}
 use Rattle.std.proofs.lemmas.Bool.{ltb-true}
-use Rattle.search.proofs.Groups.{candidate, narrow}
+use Rattle.search.proofs.Groups.{narrow}
 use Rattle.search.proofs.Useless.{heavy, many, empty, light, shut}
 use Rattle.search.proofs.ring.useless.Goals as goal
 use Rattle.search.proofs.ring.useless.Goals.{then-least-most-via-then-least-most, then-least-most-via-else-least-most+then-least-rule, then-least-most-via-else-least-most+else-least-rule+then-least-gt0}
@@ -12,9 +12,7 @@ last : (n head free : ℕ) → n ≤ 24 → head + 2 ^ free ≤ 2 ^ n → head +
 last n head free few within = rw (one_shl free 64 (omega (arith, narrow n head free within)))
 
 pub tally-least-requires : goal.tally-least-requires
-tally-least-requires c =
-    let ring = c.args.tallies.now.ring in
-    candidate (length ring.weights.now) c.args.head ring.ordered.few (omega (arith, c.requires.1, pow_pos c.args.free))
+tally-least-requires c = omega (arith, c.requires.1, pow_pos c.args.free)
 
 pub returns-then-least-most : goal.returns-then-least-most
 returns-then-least-most c _ =
@@ -31,12 +29,7 @@ overflow_shl-free c = let ring = c.args.tallies.now.ring in omega (arith, ring.o
 pub tally-whole-requires : goal.tally-whole-requires
 tally-whole-requires c =
     let ring = c.args.tallies.now.ring in
-    let n = length ring.weights.now in
-    omega (
-      arith,
-      candidate n (c.args.head + 2 ^ c.args.free - 1) ring.ordered.few (omega (arith, c.requires.1, pow_pos c.args.free)),
-      last n c.args.head c.args.free ring.ordered.few c.requires.1,
-    )
+    omega (arith, c.requires.1, pow_pos c.args.free, last (length ring.weights.now) c.args.head c.args.free ring.ordered.few c.requires.1)
 
 pub returns-then-whole-rule : goal.returns-then-whole-rule
 returns-then-whole-rule c _ =

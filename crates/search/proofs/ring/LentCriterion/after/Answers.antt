@@ -1,15 +1,13 @@
 -- What is left of the proof that what is passed over is of no use.
 use Rattle.std.proofs.Common.{◌≡◌, ◌*◌, ◌%◌, ◌^◌, length, refl, arith}
 use Rattle.std.proofs.lemmas.Nat.{one_shl, pow_pos}
-use Rattle.search.proofs.Groups.{block, candidate}
+use Rattle.search.proofs.Groups.{block}
 use Rattle.search.proofs.Useless.{pass_none, pass_some}
-use Rattle.search.proofs.ring.TalliesCriterion.after.Goals as goal
-use Rattle.search.proofs.ring.TalliesCriterion.after.Goals.{in-None, in-Some}
+use Rattle.search.proofs.ring.LentCriterion.after.Goals as goal
+use Rattle.search.proofs.ring.LentCriterion.after.Goals.{in-None, in-Some}
 
 pub tally-requires : goal.tally-requires
-tally-requires c =
-    let ring = c.args.self.now.ring in
-    candidate (length ring.weights.now) c.in-Some.b ring.ordered.few (omega (arith, c.requires.0, rw c.in-Some.is at c.requires.1))
+tally-requires c = omega (arith, c.requires.0, rw c.in-Some.is at c.requires.1)
 
 pub useless-requires : goal.useless-requires
 useless-requires c =

@@ -3,11 +3,7 @@ use Rattle.std.proofs.Common.{length, ◌∙◌}
 use Rattle.choices.specs.Numbered.{choice_of}
 use Rattle.choices.proofs.Numbers.{length_choice_of}
 use Rattle.choices.proofs.Tallies.{fits_is}
-use Rattle.search.proofs.Groups.{candidate}
-use Rattle.search.proofs.ring.TalliesCriterion.allows.Goals as goal
-
-pub tally-requires : goal.tally-requires
-tally-requires c = let ring = c.args.self.now.ring in candidate (length ring.weights.now) c.args.k ring.ordered.few c.requires
+use Rattle.search.proofs.ring.LentCriterion.allows.Goals as goal
 
 pub returns : goal.returns
 returns c =
