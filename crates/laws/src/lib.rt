@@ -2,7 +2,7 @@
 #![tactic(auto)]
 
 ghost use Rattle.laws.specs.Examples.{EmptyAndOld, FewerPans, FirstPair};
-ghost use Rattle.laws.specs.Laws.{BagsWeighEnough, NoPanWaitsTooLong, OneBestOrNone, RowsLoseNothing};
+ghost use Rattle.laws.specs.Laws.{BagsWeighEnough, NoPanWaitsTooLong, NothingLost, OneBestOrNone, RowsLoseNothing};
 
 use engines::Kind;
 
@@ -11,9 +11,11 @@ pub fn one_is_best_or_none()
     ensures { OneBestOrNone }
 {}
 
-/// Of every kind of bag: what goes into bags leaves the pans, and what falls between bags is all that is added.
+/// What goes into a bag leaves the pans, whatever is chosen; and of every kind of bag: what goes into bags leaves the pans,
+/// and what falls between bags is all that is added.
 pub fn nothing_is_lost<R, K: Kind<R>>()
-    ensures { RowsLoseNothing K.allows K.after }
+    ensures bag { NothingLost }
+    ensures row { RowsLoseNothing K.allows K.after }
 {}
 
 /// Of every kind of bag: bag after bag no pan's age comes above the kind's.
