@@ -1,9 +1,10 @@
 //! Laws of the entries, each asked for by a function's contract.
-ghost use Rattle.packing.specs.Laws.{EntriesAgree, RefusalsAreExact};
+ghost use Rattle.packing.specs.Laws.{EntriesAgree, LimitsAre, RefusalsAreExact};
 
-/// Nothing is turned away just where everything is in order.
+/// Nothing is turned away just where everything is in order: no number above 1,000,000, and no more than 24 pans.
 pub fn refusals_are_exact()
-    ensures { RefusalsAreExact }
+    ensures exact { RefusalsAreExact }
+    ensures limits { LimitsAre }
 {}
 
 /// The entry over a room answers and leaves what the entry without one does.

@@ -9,6 +9,6 @@ mod seasons;
 
 pub use answers::Played;
 pub use falling::fall;
-pub use limits::LONGEST;
+pub use limits::{LONGEST, limits_are};
 pub use run::{Run, play};
 pub use seasons::{season, season_checked, told};

@@ -2,5 +2,5 @@
 use Rattle.packing.proofs.Refused.{refusals_are_exact}
 use Rattle.packing.proofs.laws.refusals_are_exact.Goals as goal
 
-pub returns : goal.returns
-returns c = refusals_are_exact
+pub returns-clause-exact : goal.returns-clause-exact
+returns-clause-exact c = refusals_are_exact
