@@ -4,3 +4,4 @@ pub mod Kinds
 pub mod Lacks
 pub mod Plain
 pub mod PlainLaw
+pub mod Sizes

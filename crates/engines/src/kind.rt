@@ -2,7 +2,7 @@
 ghost use Rattle.choices.specs.Stand.{InOrder, May, stand};
 ghost use Rattle.engines.specs.Kinds.{Lawful};
 ghost use Rattle.order.specs.Order.{Found};
-ghost use Rattle.std.specs.Prelude.{◌≡◌, ℕ, ◌≤◌, length};
+ghost use Rattle.std.specs.Prelude.{◌≡◌, ℕ, ◌≤◌, List, [], length};
 
 use order::Bag;
 
@@ -26,11 +26,16 @@ pub trait Kind<R> {
     /// Its own numbers are in order for a ring of so many pans and for so many bags more.
     ghost ready: { Self → (pans bags : ℕ) → Type 0 };
 
-    /// The best of all choices that are allowed, or none where none is. What the rooms hold afterwards has no meaning.
+    /// How long each of the rooms is. A kind that does not say it promises nothing of that.
+    ghost size: { R → List ℕ } = { λ r. [] };
+
+    /// The best of all choices that are allowed, or none where none is. What the rooms hold afterwards has no meaning, and
+    /// they are as long as before.
     fn best(&self, weights: &[u32], ages: &[u32], rooms: &mut R) -> Option<Bag>
         requires pans { InOrder (stand weights.now ages.now) }
         requires numbers { ready self.now (length weights.now) 1 }
-        ensures { Found (allows self.now (stand weights.now ages.now)) weights.now result };
+        ensures found { Found (allows self.now (stand weights.now ages.now)) weights.now result }
+        ensures rooms { size rooms.new ≡ size rooms.old };
 
     /// Notes that a bag of so much weight was made of a ring of so many pans.
     fn made(&mut self, pans: usize, weight: u32)

@@ -3,6 +3,7 @@ ghost use Rattle.choices.specs.Stand.{by_rule};
 ghost use Rattle.std.specs.Prelude.{◌≡◌};
 ghost use Rattle.engines.specs.Plain.{age_of, least_of, rule_ready, same_rule, top_of};
 ghost use Rattle.engines.specs.PlainLaw.{rule_lawful};
+ghost use Rattle.engines.specs.Sizes.{rooms_size};
 
 use crate::finder::Finder;
 use crate::kind::Kind;
@@ -22,6 +23,8 @@ impl<'a> Kind<Rooms<'a>> for Rule {
     ghost after = { same_rule };
 
     ghost ready = { rule_ready };
+
+    ghost size = { rooms_size };
 
     ghost lawful = { rule_lawful };
 

@@ -33,6 +33,11 @@ impl<'a> Rooms<'a> {
 const PAYS: usize = 100;
 
 impl<'a> Finder for Rooms<'a> {
+    ghost use Rattle.choices.specs.Stand.{Stand, by_rule, stand};
+    ghost use Rattle.choices.specs.declared.rule.Rule.{Rule};
+    ghost use Rattle.order.specs.Order.{Found};
+    ghost use Rattle.std.specs.Prelude.{◌≡◌, length};
+
     ghost lacks = { nothing_lacked };
 
     fn suffices(&self, _ring: Ring) -> Result<(), Refusal> {
@@ -40,8 +45,13 @@ impl<'a> Finder for Rooms<'a> {
     }
 
     // The table by weight where its rows fit the lent bytes and pay; else the two halves, where these fit the lent entries;
-    // else the scan, which takes no room at all.
-    fn best(&mut self, ring: Ring) -> Option<Bag> {
+    // else the scan, which takes no room at all. The lent rooms are as long afterwards as before.
+    fn best(&mut self, ring: Ring) -> Option<Bag>
+        ensures found { Found (by_rule ring.entry.rule (stand ring.entry.weights.now ring.entry.ages.now)) ring.entry.weights.now result }
+        ensures kept { (r : Rule) (s : Stand) → nothing_lacked self.new r s ≡ nothing_lacked self.old r s }
+        ensures entries { length self.new.entries.now ≡ length self.old.entries.now }
+        ensures bytes { length self.new.bytes.now ≡ length self.old.bytes.now }
+    {
         let takes = halves::room_for(ring.weights.len());
         let most = self.bytes.len().min(PAYS * takes);
         if table::most_room_for(ring) <= most || table::room_for(ring) <= most {

@@ -5,3 +5,4 @@ pub mod Kind
 pub mod Entry
 pub mod Season
 pub mod Laws
+pub mod Sizes

@@ -6,6 +6,7 @@ ghost use Rattle.mixing.specs.Entry.{AsWithoutKinds, MixPromises};
 ghost use Rattle.mixing.specs.Refusals.{mix_refusal};
 ghost use Rattle.mixing.specs.Windows.{mixed_by, windows_in};
 ghost use Rattle.packing.specs.Entry.{Answered};
+ghost use Rattle.std.specs.Prelude.{◌≡◌, length};
 
 use crate::kind::mix_of;
 use crate::refusal::checked_mix;
@@ -22,7 +23,7 @@ use packing::pack;
 /// none above 1,000,000. Bit `i` of the answer's `pans` is pan `i`. Answers `None`, and changes nothing, where no choice at
 /// all is allowed. Refuses what is out of range (1 to 3, places from 0), and then (6) more than four kinds at how many, not
 /// a kind for each pan at how many kinds there are, and a kind that the rule doesn't have at its first pan; and then changes
-/// nothing. No room is asked for.
+/// nothing. No room is asked for, and the rooms are as long afterwards as before.
 pub fn mix(
     rule: &[u32],
     weights: &mut [u32],
@@ -33,6 +34,8 @@ pub fn mix(
     ensures answer { Answered (mix_refusal rule.now (stand weights.old ages.old) kinds.now) (mixed_by (rule_in rule.now) (windows_in rule.now) kinds.now) (stand weights.old ages.old) result (stand weights.new ages.new) }
     ensures promises { MixPromises (rule_in rule.now) (windows_in rule.now) kinds.now (stand weights.old ages.old) result (stand weights.new ages.new) }
     ensures one_kind { AsWithoutKinds rule.now kinds.now (stand weights.old ages.old) result (stand weights.new ages.new) }
+    ensures keys { length rooms.new.keys.now ≡ length rooms.old.keys.now }
+    ensures entries { length rooms.new.entries.now ≡ length rooms.old.entries.now }
 {
     let whole = checked_mix(rule, weights, ages, kinds)?;
     let mut kind = mix_of(whole, rule, kinds);

@@ -6,6 +6,7 @@ ghost use Rattle.order.specs.Order.{Found};
 ghost use Rattle.choices.specs.Ruled.{rule_in};
 ghost use Rattle.mixing.specs.Refusals.{many};
 ghost use Rattle.mixing.specs.Kind.{IsMix, mix_age, mix_allows, mix_lawful, mix_least, mix_ready, mix_top, same_mix};
+ghost use Rattle.mixing.specs.Sizes.{rooms_size};
 ghost use Rattle.mixing.specs.Windows.{window_at, windows_at};
 
 use crate::rooms::{MixRooms, find_mix};
@@ -76,7 +77,9 @@ fn find_by<'x>(
     requires few { length windows.now ≤ KINDS }
     requires paired { length kinds.now ≡ length weights.now }
     requires known { (i : ℕ) → slice_index kinds.now i < length windows.now }
-    ensures { Found (mixes rule windows.now kinds.now weights.now ages.now) weights.now result }
+    ensures found { Found (mixes rule windows.now kinds.now weights.now ages.now) weights.now result }
+    ensures keys { length rooms.new.keys.now ≡ length rooms.old.keys.now }
+    ensures entries { length rooms.new.entries.now ≡ length rooms.old.entries.now }
 {
     let ring = Ring {
         rule,
@@ -103,6 +106,8 @@ impl<'a, 'b> Kind<MixRooms<'b>> for Mix<'a> {
     ghost after = { same_mix };
 
     ghost ready = { mix_ready };
+
+    ghost size = { rooms_size };
 
     ghost lawful = { mix_lawful };
 

@@ -1,6 +1,7 @@
 //! Rooms lent for the best mixed bag, and which engine runs in these.
 ghost use Rattle.kinds.specs.Kinds.{mixes};
 ghost use Rattle.order.specs.Order.{Found};
+ghost use Rattle.std.specs.Prelude.{◌≡◌, length};
 
 use kinds::MixedRing;
 use order::Bag;
@@ -18,9 +19,11 @@ pub struct MixRooms<'a> {
 pub const KEYS: usize = 131_072;
 
 /// The best of all choices that fit the ring's rule and have so much of each kind, or `None` where there is none. What the
-/// rooms hold afterwards has no meaning.
+/// rooms hold afterwards has no meaning, and they are as long as before.
 pub fn find_mix(mixed: MixedRing, rooms: &mut MixRooms) -> Option<Bag>
-    ensures { Found (mixes mixed.entry.ring.rule mixed.entry.windows.now mixed.entry.kinds.now mixed.entry.ring.weights.now mixed.entry.ring.ages.now) mixed.entry.ring.weights.now result }
+    ensures found { Found (mixes mixed.entry.ring.rule mixed.entry.windows.now mixed.entry.kinds.now mixed.entry.ring.weights.now mixed.entry.ring.ages.now) mixed.entry.ring.weights.now result }
+    ensures keys { length rooms.new.keys.now ≡ length rooms.old.keys.now }
+    ensures entries { length rooms.new.entries.now ≡ length rooms.old.entries.now }
 {
     if kinds_table::room_for(mixed) <= rooms.keys.len().min(KEYS) {
         kinds_table::best(mixed, rooms.keys)

@@ -3,7 +3,7 @@ ghost use Rattle.choices.specs.Ruled.{rule_in};
 ghost use Rattle.choices.specs.Stand.{by_rule, stand};
 ghost use Rattle.packing.specs.Entry.{Answered, Promises};
 ghost use Rattle.packing.specs.Refusals.{first_refusal, room_refusal};
-ghost use Rattle.std.specs.Prelude.{length};
+ghost use Rattle.std.specs.Prelude.{◌≡◌, length};
 
 use crate::one_bag::pack;
 use crate::refusal::checked;
@@ -31,6 +31,7 @@ pub fn bag(rule: &[u32], weights: &mut [u32], ages: &mut [u32]) -> Result<Option
 
 /// The same over lent rooms, as fast as these allow. It asks for room: refuses (5, how many entries the ring takes)
 /// where the entries are fewer than the two halves take. Bytes for the table by weight may be however many there are.
+/// The rooms are as long afterwards as before, whatever is answered.
 pub fn bag_in(
     rule: &[u32],
     weights: &mut [u32],
@@ -39,6 +40,8 @@ pub fn bag_in(
 ) -> Result<Option<Bag>, Refusal>
     ensures answer { Answered (room_refusal rule.now (stand weights.old ages.old) (length rooms.old.entries.now)) (by_rule (rule_in rule.now)) (stand weights.old ages.old) result (stand weights.new ages.new) }
     ensures promises { Promises (rule_in rule.now) (stand weights.old ages.old) result (stand weights.new ages.new) }
+    ensures entries { length rooms.new.entries.now ≡ length rooms.old.entries.now }
+    ensures bytes { length rooms.new.bytes.now ≡ length rooms.old.bytes.now }
 {
     let mut rule = checked(rule, 0, weights, ages)?;
     rooms.unless_halves(weights.len())?;

@@ -22,6 +22,7 @@ fn open_pans(weights: &mut [u32], ages: &mut [u32], pans: u32)
 }
 
 /// Makes the best bag of a kind, or none where no choice whatever is allowed: then nothing changes, the kind neither.
+/// The lent rooms are as long afterwards as before.
 ///
 /// What an entry checked is asked for: pans in order, and the kind ready for one bag of so many pans. Weights and ages
 /// are lent to be written, which a `Ring` rules out.
@@ -36,6 +37,7 @@ pub fn pack<R, K: Kind<R>>(
     ensures bag { Packs (K.allows kind.old) (stand weights.old ages.old) result (stand weights.new ages.new) }
     ensures keeps { Keeps (K.age kind.old) (stand weights.old ages.old) result (stand weights.new ages.new) }
     ensures kind { kind.new ≡ after_bag K.after kind.old result }
+    ensures rooms { K.size rooms.new ≡ K.size rooms.old }
 {
     let bag = kind.best(weights, ages, rooms)?;
     kind.made(weights.len(), bag.weight);

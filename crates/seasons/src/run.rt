@@ -18,7 +18,7 @@ pub struct Run {
 }
 
 /// Makes so many bags of a kind, the best of each stand, and lets the list's handfuls fall in turn into the empty pans
-/// after each; ends early at a bag for which no choice is allowed.
+/// after each; ends early at a bag for which no choice is allowed. The lent rooms are as long afterwards as before.
 ///
 /// What an entry checked is asked for: pans in order, a kind that is ready for so many bags, no handful above `LIMIT`,
 /// and no more than `LONGEST` bags.
@@ -34,7 +34,8 @@ pub fn play<R, K: Kind<R>>(
     requires numbers { K.ready kind.old (length weights.old) bags }
     requires small { (i : ℕ) → slice_index handfuls.now i ≤ LIMIT }
     requires few { bags ≤ LONGEST }
-    ensures { Plays K.allows K.age K.least K.top K.after K.ready handfuls.now bags kind.old (stand weights.old ages.old) kind.new (stand weights.new ages.new) result.bags result.weight result.ended_early }
+    ensures played { Plays K.allows K.age K.least K.top K.after K.ready handfuls.now bags kind.old (stand weights.old ages.old) kind.new (stand weights.new ages.new) result.bags result.weight result.ended_early }
+    ensures rooms { K.size rooms.new ≡ K.size rooms.old }
 {
     let mut weight = 0u64;
     let mut next = 0;

@@ -1,5 +1,5 @@
 //! Seasons: bag after bag by a rule, with handfuls of a list falling into the empty pans after each.
-ghost use Rattle.std.specs.Prelude.{◌≡◌, ℕ, ◌+◌, ◌*◌, ◌^◌, ◌<◌, ◌≤◌, OnOk, slice_index};
+ghost use Rattle.std.specs.Prelude.{◌≡◌, ℕ, ◌+◌, ◌*◌, ◌^◌, ◌<◌, ◌≤◌, OnOk, length, slice_index};
 ghost use Rattle.answers.specs.Refusals.{passed};
 ghost use Rattle.choices.specs.Ruled.{rule_in};
 ghost use Rattle.choices.specs.Stand.{stand};
@@ -63,7 +63,8 @@ pub fn season_checked(
 /// made or no choice fits.
 ///
 /// Weights and handfuls are in the scale's unit. What `season_checked` refuses changes nothing; once begun no bag is
-/// turned away. No room is asked for: where the fast engines have too little, the scan runs.
+/// turned away. No room is asked for: where the fast engines have too little, the scan runs. The rooms are as long
+/// afterwards as before, whatever is answered.
 pub fn season(
     rule: &[u32],
     weights: &mut [u32],
@@ -74,6 +75,8 @@ pub fn season(
 ) -> Result<Played, Refusal>
     ensures answer { Seasoned (season_refusal 4 rule.now (stand weights.old ages.old) handfuls.now bags) (rule_in rule.now) handfuls.now bags (stand weights.old ages.old) result (stand weights.new ages.new) }
     ensures never { OnOk result (Untouched rule.now handfuls.now (stand weights.old ages.old)) }
+    ensures entries { length rooms.new.entries.now ≡ length rooms.old.entries.now }
+    ensures bytes { length rooms.new.bytes.now ≡ length rooms.old.bytes.now }
 {
     let rule = season_checked(rule, 0, weights, ages, handfuls, bags)?;
     let mut kind = rule;

@@ -1,5 +1,6 @@
 // A kind of bag with a state, as a test of what kinds of bag promise: a bag may weigh less than the target by what the last
 // one weighed above it.
+ghost use Rattle.engines.specs.Sizes.{rooms_size};
 ghost use Rattle.trials.specs.MakesUp.{age_of, allowed_by, least_of, made_up, makes_up_lawful, makes_up_ready, top_of};
 ghost use Rattle.std.specs.Prelude.{◌≡◌};
 
@@ -26,6 +27,8 @@ impl<'a> Kind<Rooms<'a>> for MakesUp {
     ghost after = { made_up };
 
     ghost ready = { makes_up_ready };
+
+    ghost size = { rooms_size };
 
     ghost lawful = { makes_up_lawful };
 

@@ -27,7 +27,7 @@ returns-clause-answer c =
     let kinds = (passed_as _ _ _ c.in_ok-check_kinds.ensures).0 in
     let e = c.told.ensures in
     rw (rw c.behind.ensures.value at f.0, kinds)
-    (played_mix _ _ _ _ _ _ _ _ _ _ _ _ _ c.mix_of-kind.ensures.same (ap (λ (r : Rule). r.target) f.1) c.play-run.ensures e.bags e.weight e.ended e.given)
+    (played_mix _ _ _ _ _ _ _ _ _ _ _ _ _ c.mix_of-kind.ensures.same (ap (λ (r : Rule). r.target) f.1) c.play-run.ensures.played e.bags e.weight e.ended e.given)
 
 pub returns-clause-never : goal.returns-clause-never
 returns-clause-never c = untouched _ _ _ _ c.in_ok-whole.ensures.small (taken c)
