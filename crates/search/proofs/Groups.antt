@@ -11,14 +11,10 @@ use Rattle.choices.proofs.Blocks.{zeros_multiple, block_within}
 use Rattle.choices.proofs.Numbers.{length_choice_of, choice_of_high}
 use Rattle.choices.proofs.Tallies.{Small, tallied_small}
 use Rattle.search.specs.Groups.{TalliedBelow, nothing}
-use Rattle.search.specs.declared.tallies.Tallies.{Tallies}
 
 -- t is the tally of choice k
 abbrev pub Of : Ring → ℕ → Tally → Type 0
 Of r k t = Tallied r.weights.now r.ages.now r.rule.age (choice_of (length r.weights.now) k) t
-
-pub told : (s : Tallies) (b : ℕ) → TalliedBelow s.ring b s.groups
-told s b i h _ = record { weighs = s.weighs i h; counts = s.counts i h; empties = s.empties i h; olds = s.olds i h }
 
 pub fewer : (r : Ring) (a b : ℕ) (ts : List Tally) → a ≤ b → TalliedBelow r b ts → TalliedBelow r a ts
 fewer r a b ts le h i l u = h i l (omega arith)
@@ -55,9 +51,9 @@ candidate n k l h = elim (cases_lt n 24) [ inl b ↦ omega (arith, pow_below n 2
     whole : n ≡ 24 → k < 2 ^ 24
     whole e = rw e at h
 
--- a choice of more than the last six pans: there are more
-pub many : (n k : ℕ) → 64 ≤ k → k < 2 ^ n → 6 < n
-many n k h l = elim (cases_lt 6 n) [ inl b ↦ b | inr b ↦ elim (cases_lt n 6) [ inl d ↦ absurd (omega (arith, pow_below n 6 d)) | inr d ↦ let e : n ≡ 6 = omega arith in absurd (omega (arith, rw e at l)) ] ]
+-- six pans have 64 choices
+pub six : (n k : ℕ) → n ≤ 6 → k < 2 ^ n → k < 64
+six n k le l = elim (cases_lt n 6) [ inl b ↦ omega (arith, pow_below n 6 b) | inr b ↦ let e : n ≡ 6 = omega arith in rw e at l ]
 
 -- what stands above the ring's bits does not matter
 pub within : (n k : ℕ) → choice_of n (k % 2 ^ n) ≡ choice_of n k

@@ -1,10 +1,9 @@
 //! The search of a ring: its candidates are the choices of its pans, and those that fit its rule are allowed.
-ghost use Rattle.std.specs.Prelude.{◌≡◌, ℕ, ◌+◌, ◌%◌, ◌^◌, ◌<◌, ◌≤◌, true, length, slice_index_or};
+ghost use Rattle.std.specs.Prelude.{◌≡◌, ℕ, ◌+◌, ◌%◌, ◌^◌, ◌<◌, ◌≤◌, true, length};
 ghost use Rattle.choices.specs.Choice.{fits as fits_rule};
 ghost use Rattle.choices.specs.Numbered.{choice_of};
 ghost use Rattle.choices.specs.Tallied.{Tallied, old_count_of};
 ghost use Rattle.search.specs.Block.{Useless};
-ghost use Rattle.search.specs.Groups.{nothing};
 ghost use Rattle.search.specs.Numbers.{SoughtOf};
 ghost use Rattle.order.proofs.Orders.{ranks_better};
 ghost use Rattle.order.specs.Order.{Found, better as is_better};
@@ -16,7 +15,7 @@ use choices::{Ring, Tally, look, number, weight};
 use order::{Bag, Seen, ahead};
 
 /// Candidate `k` is the choice in the bits of `k`, with pan 0 in the highest of the ring's bits.
-impl<'a> Criterion for Lent<'a> {
+impl<'a, const N: usize> Criterion for Lent<'a, N> {
     ghost count = { λ s. 2 ^ length s.ring.weights.now };
 
     ghost allows = { λ s k. fits_rule s.ring.rule s.ring.weights.now s.ring.ages.now (choice_of (length s.ring.weights.now) k) };
@@ -79,7 +78,7 @@ impl<'a> Criterion for Tallies<'a> {
 }
 
 // What the order compares of candidate `k`.
-fn seen_of(tallies: &Lent, k: u64) -> Seen
+fn seen_of<const N: usize>(tallies: &Lent<N>, k: u64) -> Seen
     requires { k < 2 ^ length tallies.now.ring.weights.now }
     ensures chosen { result.choice ≡ k }
     ensures tallied { Tallied tallies.now.ring.weights.now tallies.now.ring.ages.now tallies.now.ring.rule.age (choice_of (length tallies.now.ring.weights.now) k) result.tally }
@@ -92,7 +91,7 @@ fn seen_of(tallies: &Lent, k: u64) -> Seen
 
 // True if the rest of the block can be skipped: its head is already too heavy or at the pan limit or opens an empty pan,
 // or its fullest choice is too light or leaves an old pan shut.
-fn useless(tallies: &Lent, head: u64, free: u32, most: u32) -> bool
+fn useless<const N: usize>(tallies: &Lent<N>, head: u64, free: u32, most: u32) -> bool
     requires { (head % 2 ^ free ≡ 0) × (head + 2 ^ free ≤ 2 ^ length tallies.now.ring.weights.now) }
     ensures { result ≡ true → Useless tallies.now.ring.rule tallies.now.ring.weights.now tallies.now.ring.ages.now head free most }
 {
@@ -105,33 +104,32 @@ fn useless(tallies: &Lent, head: u64, free: u32, most: u32) -> bool
     whole.weight < rule.target || whole.old < tallies.old_count
 }
 
-// The number of the best choice. The tallies are made in `groups`, where all entries are the default before.
-fn number_in(ring: Ring, old_count: u32, groups: &mut [Tally]) -> Option<u64>
+// The number of the best choice, by the tallies of one group of six pans, or of all four.
+fn number_by<const N: usize>(ring: Ring, old_count: u32) -> Option<u64>
     requires old { old_count ≡ old_count_of ring.rule.age ring.ages.now }
-    requires one { 64 ≤ length groups.old }
-    requires all { 6 < length ring.weights.now → 256 ≤ length groups.old }
-    requires blank { (i : ℕ) → slice_index_or groups.old i nothing ≡ nothing }
+    requires one { 64 ≤ N }
+    requires most { N ≤ 256 }
+    requires all { 6 < length ring.weights.now → 256 ≤ N }
     ensures { SoughtOf ring.entry result }
 {
-    fill(ring, groups);
+    let mut groups = [Tally::default(); N];
+    fill(ring, &mut groups);
     search(&Lent {
         ring,
         old_count,
-        groups,
+        groups: &groups,
     })
 }
 
-// The number of the best choice. Up to six pans are one group, and their tallies are made in a quarter of the room.
+// The number of the best choice.
 fn best_number(ring: Ring, old_count: u32) -> Option<u64>
     requires { old_count ≡ old_count_of ring.rule.age ring.ages.now }
     ensures { SoughtOf ring.entry result }
 {
     if ring.weights.len() <= 6 {
-        let mut group = [Tally::default(); 64];
-        number_in(ring, old_count, &mut group)
+        number_by::<64>(ring, old_count)
     } else {
-        let mut groups = [Tally::default(); 256];
-        number_in(ring, old_count, &mut groups)
+        number_by::<256>(ring, old_count)
     }
 }
 

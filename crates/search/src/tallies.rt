@@ -60,7 +60,7 @@ impl<'a> Tallies<'a> {
     }
 
     // The same, lent.
-    pub(crate) fn lent(&self) -> Lent
+    pub(crate) fn lent(&self) -> Lent<256>
         ensures { result.ring ≡ self.now.ring }
     {
         Lent {
@@ -73,29 +73,29 @@ impl<'a> Tallies<'a> {
 
 /// What `Tallies` is, with the tallies lent, and of no more choices than the ring's own pans have.
 ///
-/// The entries of the groups behind these pans are needed only where there are more than six.
+/// Where there are no more than six pans, `N` may be 64, the entries of one group; else it is 256.
 #[derive(Clone, Copy)]
-pub(crate) struct Lent<'a> {
+pub(crate) struct Lent<'a, const N: usize> {
     /// The ring.
     pub(crate) ring: Ring<'a>,
     /// How many of its pans are old.
     pub(crate) old_count: u32,
     /// The tallies of its groups' choices.
-    pub(crate) groups: &'a [Tally],
+    pub(crate) groups: &'a [Tally; N],
     ghost old_counted: { old_count ≡ old_count_of ring.rule.age ring.ages.now },
-    ghost one: { 64 ≤ length groups.now },
-    ghost all: { 6 < length ring.weights.now → 256 ≤ length groups.now },
+    ghost one: { 64 ≤ N },
+    ghost all: { 6 < length ring.weights.now → 256 ≤ N },
     ghost tallied: { TalliedBelow ring (2 ^ length ring.weights.now) groups.now },
 }
 
-impl<'a> Lent<'a> {
+impl<'a, const N: usize> Lent<'a, N> {
     /// The tally of a choice of the ring's pans: the sum of what it opens in each group.
     pub(crate) fn tally(&self, choice: u64) -> Tally
         requires { choice < 2 ^ length self.now.ring.weights.now }
         ensures { Tallied self.now.ring.weights.now self.now.ring.ages.now self.now.ring.rule.age (choice_of (length self.now.ring.weights.now) choice) result }
     {
         let first = self.groups[(choice % 64) as usize];
-        if choice < 64 {
+        if N < 256 {
             return first;
         }
         let second = self.groups[(choice / 64 % 64 + 64) as usize];

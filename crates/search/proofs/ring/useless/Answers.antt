@@ -12,10 +12,10 @@ last : (n head free : ℕ) → n ≤ 24 → head + 2 ^ free ≤ 2 ^ n → head +
 last n head free few within = rw (one_shl free 64 (omega (arith, narrow n head free within)))
 
 pub tally-least-requires : goal.tally-least-requires
-tally-least-requires c = omega (arith, c.requires.1, pow_pos c.args.free)
+tally-least-requires g c = omega (arith, c.requires.1, pow_pos c.args.free)
 
 pub returns-then-least-most : goal.returns-then-least-most
-returns-then-least-most c _ =
+returns-then-least-most g c _ =
     let h = c.tally-least.ensures in
     elim c.then-least-most.branch [
       | then-least-most-via-then-least-most w ↦ heavy _ _ _ c.args.head _ _ c.requires.0 c.requires.1 (omega (arith, h.weighs, w.if-least-most.true))
@@ -24,21 +24,21 @@ returns-then-least-most c _ =
     ]
 
 pub overflow_shl-free : goal.overflow_shl-free
-overflow_shl-free c = let ring = c.args.tallies.now.ring in omega (arith, ring.ordered.few, narrow (length ring.weights.now) c.args.head c.args.free c.requires.1)
+overflow_shl-free g c = let ring = c.args.tallies.now.ring in omega (arith, ring.ordered.few, narrow (length ring.weights.now) c.args.head c.args.free c.requires.1)
 
 pub tally-whole-requires : goal.tally-whole-requires
-tally-whole-requires c =
+tally-whole-requires g c =
     let ring = c.args.tallies.now.ring in
     omega (arith, c.requires.1, pow_pos c.args.free, last (length ring.weights.now) c.args.head c.args.free ring.ordered.few c.requires.1)
 
 pub returns-then-whole-rule : goal.returns-then-whole-rule
-returns-then-whole-rule c _ =
+returns-then-whole-rule g c _ =
     let ring = c.args.tallies.now.ring in
     let h = rw (last (length ring.weights.now) c.args.head c.args.free ring.ordered.few c.requires.1) at c.tally-whole.ensures in
     light _ _ _ c.args.head _ _ c.requires.0 c.requires.1 (omega (arith, h.weighs, c.if-whole-rule.true))
 
 pub returns-else-whole-rule : goal.returns-else-whole-rule
-returns-else-whole-rule c e =
+returns-else-whole-rule g c e =
     let ring = c.args.tallies.now.ring in
     let h = rw (last (length ring.weights.now) c.args.head c.args.free ring.ordered.few c.requires.1) at c.tally-whole.ensures in
     shut _ _ _ c.args.head _ _ c.requires.0 c.requires.1 ring.ordered.paired (omega (arith, h.olds, c.args.tallies.now.old_counted, ltb-true _ _ e))

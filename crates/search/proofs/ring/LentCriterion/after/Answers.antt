@@ -7,14 +7,14 @@ use Rattle.search.proofs.ring.LentCriterion.after.Goals as goal
 use Rattle.search.proofs.ring.LentCriterion.after.Goals.{in-None, in-Some}
 
 pub tally-requires : goal.tally-requires
-tally-requires c = omega (arith, c.requires.0, rw c.in-Some.is at c.requires.1)
+tally-requires g c = omega (arith, c.requires.0, rw c.in-Some.is at c.requires.1)
 
 pub useless-requires : goal.useless-requires
-useless-requires c =
-    block (length c.args.self.now.ring.weights.now) c.args.k c.min-free.result (omega (arith, c.min-free.ensures)) (omega (arith, c.min-free.ensures)) c.requires.0
+useless-requires g c =
+    (omega arith, block (length c.args.self.now.ring.weights.now) c.args.k c.min-free.result (omega (arith, c.min-free.ensures)) (omega (arith, c.min-free.ensures)) c.requires.0)
 
 pub returns-then-useless : goal.returns-then-useless
-returns-then-useless c =
+returns-then-useless g c =
     let k = c.args.k in
     let ring = c.args.self.now.ring in
     let t = c.min-free.result in

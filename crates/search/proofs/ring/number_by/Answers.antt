@@ -4,7 +4,7 @@ use Rattle.std.proofs.lemmas.Bool.{cases_lt}
 use Rattle.std.proofs.lemmas.List.{length-replicate, get_or-replicate, get_or_past}
 use Rattle.choices.specs.declared.tally.Tally.{Tally}
 use Rattle.search.specs.Groups.{nothing}
-use Rattle.search.proofs.ring.best_number.Goals as goal
+use Rattle.search.proofs.ring.number_by.Goals as goal
 
 none : (w p e o : ℕ) → (w ≡ 0) × ((p ≡ 0) × ((e ≡ 0) × (o ≡ 0))) → record { weight = w; pans = p; empty = e; old = o } ≡ nothing
 none w p e o h = rw (h.0, h.1.0, h.1.1.0, h.1.1.1) refl
@@ -16,8 +16,5 @@ blank n i t e =
       | inr l ↦ get_or_past (replicate n t) i nothing (omega (arith, length-replicate n t))
     ]
 
-pub number_in-requires-clause-blank : goal.number_in-requires-clause-blank
-number_in-requires-clause-blank c i = blank 64 i c.default-group.result c.default-group.ensures
-
-pub number_in-requires-else-ring-le6-clause-blank : goal.number_in-requires-else-ring-le6-clause-blank
-number_in-requires-else-ring-le6-clause-blank c i = blank 256 i c.default-groups.result c.default-groups.ensures
+pub fill-requires-clause-blank : goal.fill-requires-clause-blank
+fill-requires-clause-blank g c i = blank _ i c.default-groups.result c.default-groups.ensures
