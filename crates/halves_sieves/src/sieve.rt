@@ -26,7 +26,7 @@ fn sieve(es: &mut [u64], short: &[u64; 32]) -> usize
 }
 
 // So few entries are swept over sooner than sieved (measured, see bench/).
-const FEW: usize = 64;
+const FEW: usize = 128;
 
 /// Moves the entries of a span that are worth keeping to the front, still sorted, and answers how many there are.
 ///
