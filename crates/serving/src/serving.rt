@@ -142,7 +142,7 @@ pub fn serve<R: Read, W: Write, E: Write>(
     let mut line = Vec::new(heap);
     let mut text = String::with_capacity(heap, LONGEST)?;
     for number in 0..u64::MAX {
-        if !next_line(input, &mut line)? {
+        if !next_line(heap, input, &mut line)? {
             out.flush()?;
             return Ok(Ended::AtEnd);
         }

@@ -9,6 +9,6 @@ returns-then-branch-eq0 g c = all_read _ (c.in_ok-read_until.ensures.end c.if-br
 pub returns : goal.returns
 returns g c =
     let read = c.in_ok-read_until.ensures in
-    next_left _ _ _ _ _ c.clear.ensures.items read.bytes read.rest
+    next_left _ _ _ _ _ c.cleared.ensures read.bytes read.rest
     (λ e. c.if-branch-eq0.false (omega (arith, read.ok, c.read_until.new.buf.ok.0, ap length e)))
     c.cut_feed.ensures
