@@ -28,13 +28,42 @@ pub fn best(ring: Ring, room: &mut [u8]) -> Option<Bag>
         return None;
     }
     // A bag of exactly the target by few pans takes a fraction of the time of the rows.
-    if seen.few_may_do(ring.rule) {
+    if seen.few_may_do(ring.rule) && few_may_hit(ring, seen) {
         let easy = exact::best(ring, room);
         if easy.is_some() {
             return easy;
         }
     }
     by_rows(ring, seen, room)
+}
+
+// Whether up to four pans that weigh between the lightest and the heaviest may weigh exactly `left`.
+fn four_may_weigh(left: u64, lightest: u64, heaviest: u64) -> bool {
+    for pans in 0..5u64 {
+        if pans.saturating_mul(lightest) <= left && left <= pans.saturating_mul(heaviest) {
+            return true;
+        }
+    }
+    false
+}
+
+// Whether up to four free pans may weigh exactly what is left of the target: not all are even where it is odd, and so many
+// of the lightest are not too heavy, and of the heaviest not too light. Only the time that `best` takes depends on it, so it
+// promises nothing.
+fn few_may_hit(ring: Ring, seen: Survey) -> bool {
+    let left = ring.rule.target - seen.old_weight.min(ring.rule.target);
+    let mut below = u32::MAX;
+    let mut bits = 0;
+    // By index, as `survey` is. An empty pan is never opened, so it counts as the heaviest here.
+    for pan in 0..ring.weights.len() {
+        below = below.min(ring.weights[pan].wrapping_sub(1));
+        bits |= ring.weights[pan];
+    }
+    if left % 2 > bits % 2 {
+        return false;
+    }
+    let lightest = u64::from(below).saturating_add(1);
+    four_may_weigh(u64::from(left), lightest, u64::from(seen.heaviest))
 }
 
 // Fills all rows, finds the lightest weight in the window that few enough pans make, and reads off its pans.
