@@ -128,6 +128,14 @@ def handed_on(group, program, root, example, printed):
         group.same("./weigh of nothing", "/dev/null", run(script, ["/dev/null"]), (0, b"", b""))
         group.same("./weigh --strict", "bag", run(script, ["--strict"], b"bag\nbag\n"), (1, b"refused 1 at 0\n", b""))
         group.same("./weigh with a file that is not there", "nowhere", run(script, ["nowhere"])[:2], (2, b""))
+        odd = os.path.join(os.fsencode(room), b"a \xff.txt")
+        with open(odd, "wb") as file:
+            file.write(b"bag\nbag\n")
+        group.same("./weigh with a file whose name is no text", odd, run(script, [b"--strict", odd]), (1, b"refused 1 at 0\n", b""))
+        os.remove(odd)
+        group.same("./weigh with no file of such a name", odd, run(script, [odd]), (2, b"", b"weigh: no file of commands at " + odd + b"\n"))
+        os.remove(os.path.join(room, "target", "weigh"))
+        group.same("./weigh that is not built yet, and no file", "nowhere", run(script, ["nowhere"]), (2, b"", b"weigh: no file of commands at nowhere\n"))
 
 
 def told(group, program):
