@@ -10,7 +10,7 @@ TOLD = b"weigh: out of memory\n"
 SCRIPT = b"".join([
     b"rule 100 10 6 9\npans", b" 30" * 24, b"\nages", b" 0" * 24, b"\nbag\n",
     b"fall", b" 30" * 4, b"\nfall", b" 25" * 30_000, b"\nbags 5000\nfall", b" 25" * 90_000, b"\nbags 5000\n",
-    b"# ", b"x" * 900_000, b"\nbags 0\n",
+    b"handfuls", b" 25" * 120_000, b"\nbag\n# ", b"x" * 900_000, b"\nbags 0\n",
 ])
 
 
