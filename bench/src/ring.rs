@@ -39,7 +39,7 @@ impl Ring {
         bits(&self.weights, |w| w == 0)
     }
 
-    /// The bytes that the table takes: a row for no pan and one for each two pans, each of whole blocks of 64 bytes for the weights up to W,
+    /// The bytes that are asked for the table: a row for no pan and one for each two pans, each of whole blocks of 64 bytes for the weights up to W,
     /// with as many in front as two pans can reach back.
     pub fn table_bytes(&self) -> usize {
         let (mut due, mut free, mut heaviest) = (0u32, 0u32, 0u32);

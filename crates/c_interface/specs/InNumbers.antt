@@ -1,6 +1,7 @@
 -- What the exported calls answer, in numbers. Assumes nothing: these are definitions.
 --   bag_number      a bag as one number: its pans times 2 to the power of 32, and its weight; 0 where there is none
---   table_refusal   what a bag would be turned away for; then 5 where the lent bytes are fewer than the ring's table takes
+--   table_refusal   what a bag would be turned away for; then 5 where the lent bytes are fewer than are asked for the ring's
+--                   table
 --   Told            what a call over one engine answers: the first refusal's number, or the best bag's number
 --   SeasonTold      what a season's call answers and leaves
 use Rattle.std.specs.Prelude.{◌≡◌, ℕ, ◌+◌, ◌*◌, ◌^◌, List, Some, None, Option}

@@ -1,5 +1,5 @@
 -- What the table by weight turns a ring away for where it has too few bytes. Assumes nothing: this is a definition.
---   bytes_lacked   refusal 5, with how many bytes the ring's table takes
+--   bytes_lacked   refusal 5, with how many bytes are asked for the ring's table
 use Rattle.std.specs.Prelude.{ℕ, Option}
 use Rattle.answers.specs.Refusals.{lacked}
 use Rattle.answers.specs.declared.refusal.Refusal.{Refusal}

@@ -1,18 +1,17 @@
 -- The lightest weight in the window that few enough pans make is the best bag's, and the first choice of it the best.
-use Rattle.std.proofs.Common.{◌≡◌, ℕ, ◌+◌, ◌-◌, ◌*◌, ◌<◌, ◌≤◌, min, true, false, ◌&&◌, ltb, leb, ◌⊎◌, List, [], ◌∷◌, length, get_or, None, sym, refl, ◌∙◌, inl, inr, arith}
+use Rattle.std.proofs.Common.{◌≡◌, ℕ, ◌+◌, ◌-◌, ◌*◌, ◌<◌, ◌≤◌, min, true, false, ◌&&◌, ltb, leb, ◌⊎◌, List, [], ◌∷◌, length, get_or, None, sym, refl, ◌∙◌, inl, inr, mul-le-mul_left, mul_comm, arith}
 use Rattle.std.proofs.lemmas.Bool.{and_parts, and_from, both_ways, cases_lt, false_from_ne_true, or_right, le-leb, leb-true}
 use Rattle.choices.specs.Choice.{Choice, weight_of, opened, none_empty, keeps_old, fits}
 use Rattle.choices.specs.declared.rule.Rule.{Rule}
 use Rattle.choices.proofs.Choices.{Fitting, fitting, fits_from, opened_le}
 use Rattle.order.specs.Order.{better, first_more, NoneOf, BestBag}
 use Rattle.order.proofs.Orders.{not_better}
-use Rattle.table.specs.Pans.{old_weight_of, old_count_of, free_at, none_old_empty, span_of, pairs_of, pad_of, width_of, row_bytes, table_bytes}
-use Rattle.table.specs.Rows.{Makes, Reaches, Row, Rows, Read, Lightest, LightestAt, row_at}
+use Rattle.table.specs.Pans.{old_weight_of, old_count_of, none_old_empty, heaviest, span_of, pairs_of, pad_of, width_of, row_bytes, table_bytes}
+use Rattle.table.specs.Rows.{Makes, Row, Rows, Read, Lightest, LightestAt, row_at}
 use Rattle.table.specs.Surveyed.{Surveyed}
 use Rattle.table.specs.declared.survey.Survey.{Survey}
 use Rattle.table.proofs.Making.{old_weight_le, old_count_le, weight_le}
-use Rattle.table.proofs.Joining.{pad_reaches}
-use Rattle.table.proofs.Surveying.{heaviest_is, span_is}
+use Rattle.table.proofs.Surveying.{span_is}
 use Rattle.table.proofs.Filling.{rows_all}
 
 -- ---- what any choice has
@@ -146,11 +145,20 @@ best_found {r} {ws} {as'} {most} {start} {from} {limit} {x} {number} {bytes} t h
 
 -- ---- what the look over the ring tells of all this
 
+-- the room that is asked for has a block or more for each row's pad
+pad_some : (most heavy : ℕ) → 64 ≤ pad_of most heavy
+unfolding pad_of
+pad_some most heavy = omega arith
+
 pub rows_fit :
     (r : Rule) {ws as' : List ℕ} {s : Survey} {most pad width long : ℕ} → Surveyed r.age ws as' s → most ≡ min (r.target + r.above - s.old_weight) s.free →
-    pad ≡ pad_of most s.heaviest → width ≡ width_of most → table_bytes r ws as' ≤ long → (pad + width) * (pairs_of (length ws) + 1) ≤ long
+    pad ≡ 64 → width ≡ width_of most → table_bytes r ws as' ≤ long → (pad + width) * (pairs_of (length ws) + 1) ≤ long
 unfolding table_bytes row_bytes
-rows_fit r {ws} {as'} {s} h is first wide enough = rw (first, wide, is ∙ span_is r ws as' s h, h.heavy) enough
+rows_fit r {ws} {as'} {s} {most} {pad} {width} h is first wide enough =
+    let n = pairs_of (length ws) + 1 in
+    let row : pad + width ≤ pad_of (span_of r ws as') (heaviest r.age ws as') + width_of (span_of r ws as') =
+    rw (first, wide, is ∙ span_is r ws as' s h) (omega (arith, pad_some (span_of r ws as') (heaviest r.age ws as'))) in
+    omega (arith, enough, mul_comm (pad + width) n, mul_comm (pad_of (span_of r ws as') (heaviest r.age ws as') + width_of (span_of r ws as')) n, mul-le-mul_left n row)
 
 pub window :
     {r : Rule} {ws as' : List ℕ} {s : Survey} {most top from pad wide limit : ℕ} {bytes : List ℕ} → Surveyed r.age ws as' s →
@@ -170,16 +178,6 @@ window {r} {ws} {as'} {s} h test paired small is within rows enough few =
       enough = omega (arith, h.old_weight);
       few = omega (arith, h.old_count);
     }
-
--- two pans reach back no further than the pad, or it is as long as the row
-pub reaches :
-    {old : ℕ} {ws as' : List ℕ} {s : Survey} (most : ℕ) {pad width : ℕ} → Surveyed old ws as' s → length as' ≡ length ws → pad ≡ pad_of most s.heaviest → width ≡ width_of most →
-    Reaches old ws as' pad width
-reaches {old} {ws} {as'} {s} most h paired is wide = λ i less.
-    let first = heaviest_is old ws as' i paired in
-    let second = heaviest_is old ws as' (i + 1) paired in
-    let far = pad_reaches most s.heaviest (free_at old ws as' i) (free_at old ws as' (i + 1)) (omega (arith, first, h.heavy)) (omega (arith, second, h.heavy)) (omega (arith, less, is)) in
-    omega (arith, far, is, wide)
 
 -- rows that are right for the window are right for each weight in it
 pub rows_from :

@@ -1,13 +1,7 @@
 -- Looks back in a row behind a pad of 255, and a row joined with two pans in one pass.
 use Rattle.std.proofs.Common.{◌≡◌, ℕ, ◌+◌, ◌-◌, ◌<◌, ◌≤◌, min, ◌⊎◌, List, get_or, refl, inl, inr, arith}
 use Rattle.std.proofs.lemmas.Bool.{cases_lt, le-leb, lt-leb}
-use Rattle.table.specs.Pans.{pad_of, width_of}
 use Rattle.table.specs.Rows.{back, joined, row_at}
-
--- two pans reach no further back than the pad, or it is as long as the row
-pub pad_reaches : (most heavy u v : ℕ) → u ≤ heavy → v ≤ heavy → pad_of most heavy < u + v → width_of most ≤ pad_of most heavy
-unfolding pad_of
-pad_reaches most heavy u v first second less = omega arith
 
 pub back_far : (f : ℕ → ℕ) (w x : ℕ) → x < w → back f w x ≡ 255
 back_far f w x h = rw (lt-leb w x h) refl
@@ -19,22 +13,31 @@ back_near f w x h = rw (le-leb w x h) refl
 pub joined_nothing : (f : ℕ → ℕ) (x : ℕ) → joined f 0 x ≡ min (f x) 255
 joined_nothing f x = let e : x - 0 ≡ x = omega arith in rw (back_near f 0 x (omega arith), e) (omega arith)
 
--- a look back by a weight, or to the front of the pad where that is too far
+-- the last block of a pad
+pub pad_block :
+    (bytes : List ℕ) {row pad : ℕ} → 64 ≤ pad → pad ≤ row → ((j : ℕ) → j < pad → get_or bytes (row - pad + j) 0 ≡ 255) →
+    (j : ℕ) → j < 64 → get_or bytes (row - 64 + j) 0 ≡ 255
+pad_block bytes {row} {pad} long low blank j less =
+    let k : ℕ = pad - 64 + j in
+    let e : row - 64 + j ≡ row - pad + k = omega (arith, long, low) in
+    rw e (blank k (omega (arith, long)))
+
+-- a look back by a weight, but by at most `most`; a weight that is more is too far, and the look ends in the pad
 pub shifted :
-    (bytes : List ℕ) (row pad w x : ℕ) → pad ≤ row → ((j : ℕ) → j < pad → get_or bytes (row - pad + j) 0 ≡ 255) → (pad < w → x < pad) →
-    get_or bytes (row + x - min w pad) 0 ≡ back (row_at bytes row) w x
-shifted bytes row pad w x low blank reach = at (cases_lt x w) (cases_lt pad w)
+    (bytes : List ℕ) (row pad w x most : ℕ) → pad ≤ row → ((j : ℕ) → j < pad → get_or bytes (row - pad + j) 0 ≡ 255) → (most < w → x < most) → most ≤ x + pad →
+    get_or bytes (row + x - min w most) 0 ≡ back (row_at bytes row) w x
+shifted bytes row pad w x most low blank above reach = at (cases_lt x w) (cases_lt most w)
   where
-    at : (x < w) ⊎ (w ≤ x) → (pad < w) ⊎ (w ≤ pad) → get_or bytes (row + x - min w pad) 0 ≡ back (row_at bytes row) w x
+    at : (x < w) ⊎ (w ≤ x) → (most < w) ⊎ (w ≤ most) → get_or bytes (row + x - min w most) 0 ≡ back (row_at bytes row) w x
     at (inl far) (inl more) =
-        let e : row + x - min w pad ≡ row - pad + x = omega arith in
-        rw (e, back_far (row_at bytes row) w x far) (blank x (reach more))
+        let e : row + x - min w most ≡ row - pad + (pad + x - most) = omega arith in
+        rw (e, back_far (row_at bytes row) w x far) (blank (pad + x - most) (omega (arith, above more)))
     at (inl far) (inr less) =
-        let e : row + x - min w pad ≡ row - pad + (pad + x - w) = omega arith in
+        let e : row + x - min w most ≡ row - pad + (pad + x - w) = omega arith in
         rw (e, back_far (row_at bytes row) w x far) (blank (pad + x - w) (omega arith))
-    at (inr near) (inl more) = absurd (omega (arith, reach more))
+    at (inr near) (inl more) = absurd (omega (arith, above more))
     at (inr near) (inr less) =
-        let e : row + x - min w pad ≡ row + (x - w) = omega arith in
+        let e : row + x - min w most ≡ row + (x - w) = omega arith in
         rw (e, back_near (row_at bytes row) w x near) refl
 
 -- a look back by two pans is one by the first and then by the second

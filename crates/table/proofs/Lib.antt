@@ -1,4 +1,5 @@
 -- The lemmas that several proofs share.
+mod Adding
 mod Joining
 mod Making
 mod Surveying

@@ -10,10 +10,10 @@
 --   span_of          the most that the free pans of a bag may weigh: all of them, or what is left up to target + above
 --   pairs_of         how many pairs so many pans make; where their number is odd, the last pair has one pan
 --   width_of         the bytes of whole blocks of 64 that hold a byte for each weight from 0 to `most`
---   pad_of           the bytes of 255 in front of a row: as far as two pans can reach back, or its width if that is less
---   row_bytes        the bytes of a row with its pad
---   table_bytes      the bytes of a table: a row for no pan at all and one for each two pans
---   most_bytes       the most that a table takes under a rule, of so many pans
+--   pad_of           as many bytes as two pans can reach back, or the width of a row if that is less
+--   row_bytes        the bytes that are asked for a row: its width, and so many in front of it
+--   table_bytes      the bytes that are asked for a table: a row for no pan at all and one for each two pans
+--   most_bytes       the most that is asked for a table under a rule, of so many pans
 use Rattle.std.specs.Prelude.{ℕ, ◌+◌, ◌-◌, ◌*◌, ◌/◌, min, max, Bool, true, cond, ◌&&◌, ◌||◌, List, [], ◌∷◌, length, drop, nat_le, nat_lt, slice_index}
 use Rattle.choices.specs.declared.rule.Rule.{Rule}
 

@@ -2,6 +2,8 @@
 --   row_at         byte x of the row whose weight 0 stands at byte `start`
 --   back           the row's value at x - weight, or 255 if x < weight
 --   joined         the row with one pan more: the least of what it holds at x, and one more than at x - weight
+--   Added          for the weights of the blocks from `low` up to `high` the row at `next` in bytes' is the row at `row` in
+--                  bytes joined with two pans, and nothing before these blocks has changed
 --   first_opens    whether the first of two pans is opened for its weight: the rest then takes fewer pans
 --   second_opens   whether the second is, once it is known whether the first is
 --   Makes          cs opens every old pan and no empty one, and weighs x more than the old pans
@@ -9,7 +11,6 @@
 --   Row            the row holds the least number for each weight from `from` to `most`
 --   Rows           for each i from `first` on, the row of the pans from 2 * i on stands in the bytes with its pad, behind
 --                  those of fewer pans. It is right from the least weight that with all free pans before reaches `from`
---   Reaches        two pans side by side reach back no further than the pad, or the pad is as long as a row
 --   First          of the choices that weigh x more than the old pans, the one of the fewest pans that opens the first pan
 --                  that differs
 --   Read           that choice has this number
@@ -19,7 +20,7 @@ use Rattle.std.specs.Prelude.{◌≡◌, ℕ, ◌+◌, ◌-◌, ◌*◌, ◌<◌
 use Rattle.choices.specs.Choice.{Choice, weight_of, opened, none_empty, keeps_old}
 use Rattle.choices.specs.Numbered.{number_of}
 use Rattle.order.specs.Order.{first_more}
-use Rattle.table.specs.Pans.{old_weight_of, old_count_of, free_at, free_before, pairs_of}
+use Rattle.table.specs.Pans.{old_weight_of, old_count_of, free_before, pairs_of}
 
 abbrev pub row_at : (bytes : List ℕ) (start : ℕ) → ℕ → ℕ
 row_at bytes start x = slice_index bytes (start + x)
@@ -29,6 +30,10 @@ back row w x = cond (nat_le w x) (row (x - w)) 255
 
 abbrev pub joined : (ℕ → ℕ) → (weight x : ℕ) → ℕ
 joined row w x = min (row x) (min (back row w x + 1) 255)
+
+pub record Added (first second row next low high : ℕ) (bytes bytes' : List ℕ) : Type 0 where
+  pub same : (j : ℕ) → j < next + 64 * low → slice_index bytes' j ≡ slice_index bytes j
+  pub made : (x : ℕ) → 64 * low ≤ x → x < 64 * high → row_at bytes' next x ≡ joined (joined (row_at bytes row) second) first x
 
 -- `whole` is the row of both pans and those behind, `behind` that of those behind alone
 abbrev pub first_opens : (whole behind : ℕ → ℕ) (first second x : ℕ) → Bool
@@ -54,9 +59,6 @@ pub record Rows (old : ℕ) (ws as' : List ℕ) (from most pad wide first : ℕ)
   pub row : (i : ℕ) → first ≤ i → i ≤ pairs_of (length ws) →
       Row old (drop (2 * i) ws) (drop (2 * i) as') (from - free_before old ws as' (2 * i)) most (row_at bytes (pad + wide * (pairs_of (length ws) - i)))
   pub blank : (i j : ℕ) → first ≤ i → i ≤ pairs_of (length ws) → j < pad → slice_index bytes (wide * (pairs_of (length ws) - i) + j) ≡ 255
-
-abbrev pub Reaches : ℕ → (weights ages : List ℕ) → (pad width : ℕ) → Type 0
-Reaches old ws as' pad width = (i : ℕ) → pad < free_at old ws as' i + free_at old ws as' (i + 1) → width ≤ pad
 
 pub record First (old : ℕ) (ws as' : List ℕ) (x : ℕ) (cs : Choice) : Type 0 where
   pub makes : Makes old ws as' x cs

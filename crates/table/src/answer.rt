@@ -76,7 +76,7 @@ fn by_rows(ring: Ring, seen: Survey, room: &mut [u8]) -> Option<Bag>
     let rule = ring.rule;
     let span = seen.span(rule);
     let from = rule.target.saturating_sub(seen.old_weight) as usize;
-    let shape = Shape::of(span, seen.heaviest as usize);
+    let shape = Shape::of(span);
     let free = free_of(ring);
     fill(ring, seen, &free, from, shape, room);
     let table = Table {

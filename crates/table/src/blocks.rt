@@ -1,7 +1,7 @@
 //! Rows are written in blocks of bytes, so that the processor can work on many bytes at once.
 ghost use Rattle.choices.specs.declared.limits.TheConstants.{LIMIT};
 ghost use Rattle.std.specs.Prelude.{◌≡◌, ℕ, ◌+◌, ◌-◌, ◌*◌, ◌<◌, ◌≤◌, min, length, slice_index};
-ghost use Rattle.table.specs.Rows.{joined, row_at};
+ghost use Rattle.table.specs.Rows.{Added, joined, row_at};
 
 /// The bytes of a block.
 pub const BLOCK: usize = 64;
@@ -57,23 +57,23 @@ pub fn blank(room: &mut [u8], never: [u8; BLOCK], from: usize, blocks: usize)
     }
 }
 
-/// Writes the block for the weights from `from` on of the row with two pans more; nothing before it changes.
-///
-/// Weight 0 stands at byte `row` in the row without the two pans, behind `pad` bytes of 255, and at byte `next` in the new
-/// row. The two pans weigh `first` and `second`, at most 1,000,000 each.
-pub fn add_block(
+// Writes the block for the weights from `from` on of the row with two pans more; nothing before it changes.
+//
+// Weight 0 stands at byte `row` in the row without the two pans, behind a block of 255, and at byte `next` in the new row. No
+// look goes further back than `most`: at most to the front of that block, and just there where the two pans reach further.
+fn add_block(
     room: &mut [u8],
     row: usize,
     next: usize,
-    pad: usize,
     from: usize,
+    most: usize,
     first: usize,
     second: usize,
 )
-    requires room { (pad ≤ row) × ((row + 64 ≤ next) × (next + from + 64 ≤ length room.old)) }
+    requires room { (64 ≤ row) × ((row ≤ next) × (next + from + 64 ≤ length room.old)) }
     requires small { (first ≤ LIMIT) × (second ≤ LIMIT) }
-    requires reach { pad < first + second → from + 64 ≤ pad }
-    requires blank { (j : ℕ) → j < pad → slice_index room.old (row - pad + j) ≡ 255 }
+    requires most { (most ≤ from + 64) × (most < first + second → from + 64 ≤ most) }
+    requires blank { (j : ℕ) → j < 64 → slice_index room.old (row - 64 + j) ≡ 255 }
     ensures same { (j : ℕ) → j < next + from → slice_index room.new j ≡ slice_index room.old j }
     ensures made { (x : ℕ) → x < 64 → row_at room.new next (from + x) ≡ joined (joined (row_at room.old row) second) first (from + x) }
 {
@@ -81,9 +81,65 @@ pub fn add_block(
     let made = join(
         room,
         here,
-        here - second.min(pad),
-        here - first.min(pad),
-        here - (first + second).min(pad),
+        here - second.min(most),
+        here - first.min(most),
+        here - (first + second).min(most),
     );
     put(room, next + from, made);
+}
+
+/// Writes the blocks from `low` up to `high` of the row with two pans more; nothing before them changes.
+///
+/// Weight 0 stands at byte `row` in the row without the two pans, behind a block of 255, and at byte `next` in the new row.
+/// The two pans weigh `first` and `second`, at most 1,000,000 each. A look that would go past the block of 255 is cut short
+/// to its front.
+pub fn add_near(
+    room: &mut [u8],
+    row: usize,
+    next: usize,
+    low: usize,
+    high: usize,
+    first: usize,
+    second: usize,
+)
+    requires room { (64 ≤ row) × ((row + 64 * high ≤ next) × (next + 64 * high ≤ length room.old)) }
+    requires small { (first ≤ LIMIT) × (second ≤ LIMIT) }
+    requires blank { (j : ℕ) → j < 64 → slice_index room.old (row - 64 + j) ≡ 255 }
+    ensures { Added first second row next low high room.old room.new }
+{
+    for block in low..high {
+        let from = BLOCK * block;
+        add_block(room, row, next, from, from + BLOCK, first, second);
+    }
+}
+
+/// As `add_near`, where from block `low` on the two pans reach back no further than to the front of the block of 255.
+///
+/// No look is cut short, so each block takes fewer instructions.
+pub fn add_far(
+    room: &mut [u8],
+    row: usize,
+    next: usize,
+    low: usize,
+    high: usize,
+    first: usize,
+    second: usize,
+)
+    requires room { (64 ≤ row) × ((row + 64 * high ≤ next) × (next + 64 * high ≤ length room.old)) }
+    requires small { (first ≤ LIMIT) × (second ≤ LIMIT) }
+    requires far { low < high → first + second ≤ 64 * low + 64 }
+    requires blank { (j : ℕ) → j < 64 → slice_index room.old (row - 64 + j) ≡ 255 }
+    ensures { Added first second row next low high room.old room.new }
+{
+    for block in low..high {
+        add_block(
+            room,
+            row,
+            next,
+            BLOCK * block,
+            first + second,
+            first,
+            second,
+        );
+    }
 }

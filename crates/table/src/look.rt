@@ -1,10 +1,10 @@
-//! One look over a ring's pans, and the room that its table takes.
+//! One look over a ring's pans, and the room that is asked for its table.
 ghost use Rattle.table.specs.Pans.{most_bytes, table_bytes};
 ghost use Rattle.table.specs.Surveyed.{Surveyed};
 ghost use Rattle.std.specs.Prelude.{◌≡◌, ◌≤◌, length};
 
 use crate::pans::pairs;
-use crate::shape::{Shape, width_of};
+use crate::shape::{row_bytes, width_of};
 use crate::survey::Survey;
 use choices::Ring;
 
@@ -20,16 +20,15 @@ pub fn survey(ring: Ring) -> Survey
     seen
 }
 
-/// The bytes of room that `best` needs for this ring.
+/// The bytes of room that `best` asks for with this ring.
 pub fn room_for(ring: Ring) -> usize
     ensures { result ≡ table_bytes ring.entry.rule ring.entry.weights.now ring.entry.ages.now }
 {
     let seen = survey(ring);
-    let shape = Shape::of(seen.span(ring.rule), seen.heaviest as usize);
-    shape.wide() * (pairs(ring) + 1)
+    row_bytes(seen.span(ring.rule), seen.heaviest as usize) * (pairs(ring) + 1)
 }
 
-/// The most bytes of room that `best` needs for any ring with this rule and as many pans.
+/// The most bytes of room that `best` asks for with any ring of this rule and as many pans.
 ///
 /// It lets a caller size the room without scanning the pans.
 pub fn most_room_for(ring: Ring) -> usize

@@ -5,7 +5,7 @@ ghost use Rattle.choices.specs.Choice.{bit};
 ghost use Rattle.choices.specs.Numbered.{number_of};
 ghost use Rattle.exact.specs.Pans.{only_old};
 ghost use Rattle.table.specs.Pans.{free_at, none_old_empty, pairs_of};
-ghost use Rattle.table.specs.Rows.{Lightest, Reaches, Read, Rows, first_opens, row_at, second_opens};
+ghost use Rattle.table.specs.Rows.{Lightest, Read, Rows, first_opens, row_at, second_opens};
 
 use crate::pans::pairs;
 use crate::shape::Shape;
@@ -64,17 +64,16 @@ impl Table<'_, '_> {
         requires row { self.shape.pad + (self.shape.pad + 64 * self.shape.blocks) ≤ row }
         requires left { row + left < length self.bytes.now }
         requires small { (first ≤ LIMIT) × (second ≤ LIMIT) }
-        requires reach { self.shape.pad < first + second → left < self.shape.pad }
         requires blank { (j : ℕ) → j < self.shape.pad → slice_index self.bytes.now (row - (self.shape.pad + 64 * self.shape.blocks) - self.shape.pad + j) ≡ 255 }
         ensures first { result.0 ≡ first_opens (row_at self.entry.bytes.now row) (row_at self.entry.bytes.now (row - (self.entry.shape.pad + 64 * self.entry.shape.blocks))) first second left }
         ensures second { result.1 ≡ second_opens result.0 (row_at self.entry.bytes.now row) (row_at self.entry.bytes.now (row - (self.entry.shape.pad + 64 * self.entry.shape.blocks))) first second left }
     {
-        let pad = self.shape.pad;
+        let most = left + 1;
         let rest = row - self.shape.wide() + left;
         let whole = u32::from(self.bytes[row + left]);
-        let alone = u32::from(self.bytes[rest - first.min(pad)]);
-        let other = u32::from(self.bytes[rest - second.min(pad)]);
-        let both = u32::from(self.bytes[rest - (first + second).min(pad)]);
+        let alone = u32::from(self.bytes[rest - first.min(most)]);
+        let other = u32::from(self.bytes[rest - second.min(most)]);
+        let both = u32::from(self.bytes[rest - (first + second).min(most)]);
         let with = alone.min(both + 1);
         let opens = with < whole;
         let also = if opens { both < with } else { other < whole };
@@ -89,7 +88,6 @@ impl Table<'_, '_> {
         requires free { (i : ℕ) → i < PANS → slice_index free.now i ≡ free_at self.ring.rule.age self.ring.weights.now self.ring.ages.now i }
         requires old_number { old_number ≡ number_of (only_old self.ring.rule.age self.ring.ages.now) }
         requires rows { Rows self.ring.rule.age self.ring.weights.now self.ring.ages.now weight (64 * self.shape.blocks - 1) self.shape.pad (self.shape.pad + 64 * self.shape.blocks) 0 self.bytes.now }
-        requires reach { Reaches self.ring.rule.age self.ring.weights.now self.ring.ages.now self.shape.pad (64 * self.shape.blocks) }
         requires within { weight ≤ self.span }
         requires some { row_at self.bytes.now (self.shape.pad + (self.shape.pad + 64 * self.shape.blocks) * pairs_of (length self.ring.weights.now)) weight < 255 }
         ensures { Read self.entry.ring.rule.age self.entry.ring.weights.now self.entry.ring.ages.now weight result }

@@ -2,10 +2,10 @@
 ghost use Rattle.choices.specs.declared.limits.TheConstants.{LIMIT, PANS};
 ghost use Rattle.std.specs.Prelude.{◌≡◌, ℕ, ◌+◌, ◌-◌, ◌*◌, ◌<◌, ◌≤◌, true, ◌≢◌, length, slice_index};
 ghost use Rattle.table.specs.Pans.{free_at, none_old_empty, pairs_of};
-ghost use Rattle.table.specs.Rows.{Reaches, Rows, joined, row_at};
+ghost use Rattle.table.specs.Rows.{Rows, joined, row_at};
 ghost use Rattle.table.specs.Surveyed.{Surveyed};
 
-use crate::blocks::{BLOCK, add_block, blank, get};
+use crate::blocks::{BLOCK, add_far, add_near, blank, get};
 use crate::pans::pairs;
 use crate::shape::Shape;
 use crate::survey::Survey;
@@ -37,7 +37,6 @@ fn add_pair(
     requires room { (shape.pad ≤ row) × (row + 64 * shape.blocks + (shape.pad + 64 * shape.blocks) ≤ length room.old) }
     requires within { high ≤ shape.blocks }
     requires small { (first ≤ LIMIT) × (second ≤ LIMIT) }
-    requires reach { shape.pad < first + second → 64 * shape.blocks ≤ shape.pad }
     requires blank { (j : ℕ) → j < shape.pad → slice_index room.old (row - shape.pad + j) ≡ 255 }
     ensures same { (j : ℕ) → j < row + 64 * shape.blocks → slice_index room.new j ≡ slice_index room.old j }
     ensures blank { (j : ℕ) → j < shape.pad → slice_index room.new (row + 64 * shape.blocks + j) ≡ 255 }
@@ -47,9 +46,10 @@ fn add_pair(
     let pad = shape.pad;
     let next = row + shape.wide();
     blank(room, never, next - pad, pad / BLOCK);
-    for block in low..high {
-        add_block(room, row, next, pad, BLOCK * block, first, second);
-    }
+    // From block `near` on the two pans reach back into the pad's last block at most.
+    let near = ((first + second) / BLOCK).max(low).min(high);
+    add_near(room, row, next, low, near, first, second);
+    add_far(room, row, next, near, high, first, second);
     blank(room, never, next + BLOCK * high, shape.blocks - high);
 }
 
@@ -68,7 +68,6 @@ pub fn fill(
     requires free { (i : ℕ) → i < PANS → slice_index free.now i ≡ free_at ring.rule.age ring.weights.now ring.ages.now i }
     requires seen { Surveyed ring.rule.age ring.weights.now ring.ages.now seen }
     requires old_filled { none_old_empty ring.rule.age ring.weights.now ring.ages.now ≡ true }
-    requires reach { Reaches ring.rule.age ring.weights.now ring.ages.now shape.pad (64 * shape.blocks) }
     requires enough { (shape.pad + 64 * shape.blocks) * (pairs_of (length ring.weights.now) + 1) ≤ length room.old }
     ensures { Rows ring.entry.rule.age ring.entry.weights.now ring.entry.ages.now from (64 * shape.blocks - 1) shape.pad (shape.pad + 64 * shape.blocks) 0 room.new }
 {

@@ -1,11 +1,8 @@
 -- What is left of the proof that the rows give the best bag.
 use Rattle.std.proofs.Common.{sym, ◌∙◌, arith}
 use Rattle.std.proofs.lemmas.Bool.{and_parts}
-use Rattle.table.proofs.Bests.{reaches, rows_fit, window, none_found, best_found}
+use Rattle.table.proofs.Bests.{rows_fit, window, none_found, best_found}
 use Rattle.table.proofs.answer.by_rows.Goals as goal
-
-pub fill-requires-clause-reach : goal.fill-requires-clause-reach
-fill-requires-clause-reach c = reaches c.span-span.result c.requires.seen c.args.ring.ordered.paired c.of-shape.ensures.pad c.of-shape.ensures.blocks
 
 pub fill-requires-clause-enough : goal.fill-requires-clause-enough
 fill-requires-clause-enough c =
@@ -28,9 +25,6 @@ returns-in_err-x c =
     window c.requires.seen c.requires.leaves r.ordered.paired r.ordered.few c.span-span.ensures (omega (arith, c.of-shape.ensures.blocks)) c.fill.ensures
     c.saturating_sub-from.ensures c.min-limit.ensures in
     rw c.from_residual.ensures (none_found t c.in_err-x.ensures)
-
-pub read-requires-clause-reach : goal.read-requires-clause-reach
-read-requires-clause-reach c = reaches c.span-span.result c.requires.seen c.args.ring.ordered.paired c.of-shape.ensures.pad c.of-shape.ensures.blocks
 
 pub returns : goal.returns
 returns c =

@@ -1,35 +1,31 @@
 -- What is left of the proof that a row is made with two pans more.
-use Rattle.std.proofs.Common.{◌≡◌, ℕ, ◌+◌, ◌-◌, ◌*◌, ◌<◌, ◌≤◌, ◌⊎◌, ◌∙◌, inl, inr, sym, arith}
-use Rattle.std.proofs.lemmas.Bool.{cases_lt}
-use Rattle.table.specs.Rows.{row_at, joined}
-use Rattle.table.proofs.Joining.{both_same}
+use Rattle.std.proofs.Common.{◌≡◌, ℕ, ◌+◌, ◌-◌, ◌*◌, ◌∙◌, sym, arith}
+use Rattle.table.specs.Rows.{row_at}
+use Rattle.table.proofs.Adding.{added_both}
+use Rattle.table.proofs.Joining.{both_same, pad_block}
 use Rattle.table.proofs.rows.add_pair.Goals as goal
 
-pub loop-block-preserved : goal.loop-block-preserved
-loop-block-preserved c = (
-  λ j h. c.add_block.ensures.same j (omega arith) ∙ c.loop-block.invariant.0 j h,
-  λ j h. c.add_block.ensures.same _ (omega (arith, c.wide.ensures)) ∙ c.loop-block.invariant.1 j h,
-  λ x low high. at x low high (cases_lt x (64 * c.loop-block.block)),
-)
-  where
-    at :
-        (x : ℕ) → 64 * c.args.low ≤ x → x < 64 * (c.loop-block.block + 1) → (x < 64 * c.loop-block.block) ⊎ (64 * c.loop-block.block ≤ x) →
-        row_at c.add_block.new.room (c.args.row + c.wide.result) x ≡ joined (joined (row_at c.blank.new.room c.args.row) c.args.second) c.args.first x
-    at x low high (inl older) = c.add_block.ensures.same _ (omega arith) ∙ c.loop-block.invariant.2 x low older
-    at x low high (inr newer) =
-        let y : ℕ = x - 64 * c.loop-block.block in
-        let is : 64 * c.loop-block.block + y ≡ x = omega arith in
-        (rw is at (c.add_block.ensures.made y (omega arith)))
-        ∙ both_same (row_at c.loop-block.room c.args.row) (row_at c.blank.new.room c.args.row) c.args.second c.args.first x
-        (λ z less. c.loop-block.invariant.0 _ (omega (arith, c.wide.ensures)))
+pub add_near-requires-clause-blank : goal.add_near-requires-clause-blank
+add_near-requires-clause-blank c = λ j less.
+    c.blank.ensures.same _ (omega (arith, c.args.shape.long, c.requires.room.0, c.wide.ensures))
+    ∙ pad_block _ c.args.shape.long c.requires.room.0 c.requires.blank j less
+
+pub add_far-requires-clause-far : goal.add_far-requires-clause-far
+add_far-requires-clause-far c = λ some. omega (arith, some, c.min-near.ensures, c.max.ensures)
+
+pub add_far-requires-clause-blank : goal.add_far-requires-clause-blank
+add_far-requires-clause-blank c = λ j less.
+    c.add_near.ensures.same _ (omega (arith, c.args.shape.long, c.requires.room.0, c.wide.ensures))
+    ∙ c.blank.ensures.same _ (omega (arith, c.args.shape.long, c.requires.room.0, c.wide.ensures))
+    ∙ pad_block _ c.args.shape.long c.requires.room.0 c.requires.blank j less
 
 pub returns-clause-made : goal.returns-clause-made
 returns-clause-made c = λ x low h.
     rw (sym c.wide.ensures)
     (c.blank-2.ensures.same _ (omega arith)
-    ∙ c.loop-block.invariant.2 x low (omega arith)
+    ∙ added_both (omega (arith, c.requires.within, c.wide.ensures)) c.add_near.ensures c.add_far.ensures x low h
     ∙ both_same (row_at c.blank.new.room c.args.row) (row_at c.args.room.now c.args.row) c.args.second c.args.first x
-    (λ z less. c.blank.ensures.same _ (omega (arith, c.wide.ensures))))
+    (λ z less. c.blank.ensures.same _ (omega (arith, c.wide.ensures, c.requires.within))))
 
 pub returns-clause-never : goal.returns-clause-never
 returns-clause-never c = λ x low h.
