@@ -65,6 +65,31 @@ pub four_joined :
     min (f x) (min (min (back f v x) (min (back f u x) (min (back f (u + v) x + 1) 255)) + 1) 255) ≡ joined (joined f v) u x
 four_joined f u v x = rw (back_joined f u v x) (omega arith)
 
+-- a second pan of weight 0, and a first one
+pub second_nothing : (f : ℕ → ℕ) (w x : ℕ) → joined (joined f 0) w x ≡ joined f w x
+second_nothing f w x = at (cases_lt x w)
+  where
+    at : (x < w) ⊎ (w ≤ x) → joined (joined f 0) w x ≡ joined f w x
+    at (inl far) = rw (back_far (joined f 0) w x far, back_far f w x far, joined_nothing f x) (omega arith)
+    at (inr near) = rw (back_near (joined f 0) w x near, back_near f w x near, joined_nothing f x, joined_nothing f (x - w)) (omega arith)
+
+pub first_nothing : (f : ℕ → ℕ) (w x : ℕ) → joined (joined f w) 0 x ≡ joined f w x
+first_nothing f w x = rw (joined_nothing (joined f w) x) (omega arith)
+
+-- of two pans one weighs nothing
+pub one_joined : (f : ℕ → ℕ) (first second x : ℕ) → min first second ≡ 0 → joined (joined f 0) (first + second) x ≡ joined (joined f second) first x
+one_joined f first second x none = at (cases_lt 0 first)
+  where
+    at : (0 < first) ⊎ (first ≤ 0) → joined (joined f 0) (first + second) x ≡ joined (joined f second) first x
+    at (inl more) =
+        let e : second ≡ 0 = omega arith in
+        let z : first + 0 ≡ first = omega arith in
+        rw (e, z) refl
+    at (inr less) =
+        let e : first ≡ 0 = omega arith in
+        let z : 0 + second ≡ second = omega arith in
+        rw (e, z, second_nothing f second x, first_nothing f second x) refl
+
 -- rows that agree up to a weight
 pub joined_same : (f g : ℕ → ℕ) (w x : ℕ) → ((z : ℕ) → z ≤ x → f z ≡ g z) → joined f w x ≡ joined g w x
 joined_same f g w x same = at (cases_lt x w)

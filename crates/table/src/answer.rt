@@ -6,7 +6,7 @@ ghost use Rattle.table.specs.Pans.{table_bytes};
 ghost use Rattle.table.specs.Surveyed.{Surveyed};
 
 use crate::look::survey;
-use crate::pans::{free_of, old_number};
+use crate::pans::{free_of, old_number, pairs};
 use crate::read::Table;
 use crate::rows::fill;
 use crate::shape::Shape;
@@ -14,10 +14,17 @@ use crate::survey::Survey;
 use choices::Ring;
 use order::Bag;
 
+// From so many bytes of rows on the scan of up to two pans takes less time than they do. Each three pans more double that.
+const SCAN_PAYS: usize = 65_536;
+
+// The scan of more pans may take far longer than most of them do, so the rows are filled.
+const SCAN_MOST: u32 = 12;
+
 /// The best bag of a ring, or `None` where no choice of its pans fits its rule.
 ///
 /// Row by row, for two pans more each, holds the least number of free pans that make each weight: Bellman's rows for subset
-/// sums (1957), with counts. `room` has at least the bytes that `room_for` says and may hold anything; its contents are
+/// sums (1957), with counts. Where rows are long, and few pans are neither old nor empty, the scan takes less time and is
+/// asked in their place. `room` has at least the bytes that `room_for` says and may hold anything; its contents are
 /// unspecified afterwards.
 pub fn best(ring: Ring, room: &mut [u8]) -> Option<Bag>
     requires { table_bytes ring.rule ring.weights.now ring.ages.now ≤ length room.old }
@@ -34,7 +41,25 @@ pub fn best(ring: Ring, room: &mut [u8]) -> Option<Bag>
             return easy;
         }
     }
+    if scan_may_do(ring, seen) {
+        return search::best(ring);
+    }
     by_rows(ring, seen, room)
+}
+
+// Whether the scan is likely to take less time than the rows: where these are long, and few of the pans are neither old nor
+// empty (measured, see bench/). Only the time that `best` takes depends on it, so it promises nothing.
+fn scan_may_do(ring: Ring, seen: Survey) -> bool {
+    let bytes = Shape::of(seen.span(ring.rule)).wide() * pairs(ring);
+    if bytes < SCAN_PAYS {
+        return false;
+    }
+    let mut pans = 0u32;
+    for pan in 0..ring.weights.len() {
+        pans |= u32::from(ring.weights[pan] >= 1 && ring.ages[pan] < ring.rule.age) << pan;
+    }
+    let filled = pans.count_ones();
+    filled <= SCAN_MOST && bytes >> (filled / 3) >= SCAN_PAYS
 }
 
 // Whether up to four pans that weigh between the lightest and the heaviest may weigh exactly `left`.

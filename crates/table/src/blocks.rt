@@ -20,6 +20,30 @@ fn join(room: &[u8], shut: usize, second: usize, first: usize, both: usize) -> [
     made
 }
 
+// The counts of a block as they are: none is above 255.
+fn join_none(room: &[u8], shut: usize) -> [u8; BLOCK]
+    requires near { shut + 64 ≤ length room.now }
+    ensures { (x : ℕ) → x < 64 → slice_index result x ≡ min (slice_index room.now (shut + x)) 255 }
+{
+    let mut made = [0; BLOCK];
+    for x in 0..BLOCK {
+        made[x] = room[shut + x].min(255);
+    }
+    made
+}
+
+// The less of two counts, byte by byte: the pan shut, or opened and one more.
+fn join_one(room: &[u8], shut: usize, opened: usize) -> [u8; BLOCK]
+    requires near { (shut + 64 ≤ length room.now) × (opened + 64 ≤ length room.now) }
+    ensures { (x : ℕ) → x < 64 → slice_index result x ≡ min (slice_index room.now (shut + x)) (min (slice_index room.now (opened + x) + 1) 255) }
+{
+    let mut made = [0; BLOCK];
+    for x in 0..BLOCK {
+        made[x] = room[shut + x].min(room[opened + x].saturating_add(1));
+    }
+    made
+}
+
 // Writes a block from byte `at` on; nothing before it changes.
 fn put(room: &mut [u8], at: usize, block: [u8; BLOCK])
     requires { at + 64 ≤ length room.old }
@@ -88,12 +112,9 @@ fn add_block(
     put(room, next + from, made);
 }
 
-/// Writes the blocks from `low` up to `high` of the row with two pans more; nothing before them changes.
-///
-/// Weight 0 stands at byte `row` in the row without the two pans, behind a block of 255, and at byte `next` in the new row.
-/// The two pans weigh `first` and `second`, at most 1,000,000 each. A look that would go past the block of 255 is cut short
-/// to its front.
-pub fn add_near(
+// Writes the blocks from `low` up to `high` of the row with two pans more; nothing before them changes. A look that would go
+// past the block of 255 is cut short to its front.
+fn add_near(
     room: &mut [u8],
     row: usize,
     next: usize,
@@ -113,10 +134,9 @@ pub fn add_near(
     }
 }
 
-/// As `add_near`, where from block `low` on the two pans reach back no further than to the front of the block of 255.
-///
-/// No look is cut short, so each block takes fewer instructions.
-pub fn add_far(
+// As `add_near`, where from block `low` on the two pans reach back no further than to the front of the block of 255: no look
+// is cut short, so each block takes fewer instructions.
+fn add_far(
     room: &mut [u8],
     row: usize,
     next: usize,
@@ -142,4 +162,63 @@ pub fn add_far(
             second,
         );
     }
+}
+
+// As `add_near`, where both pans weigh nothing: the row without them once more.
+fn add_none(room: &mut [u8], row: usize, next: usize, low: usize, high: usize)
+    requires room { (64 ≤ row) × ((row + 64 * high ≤ next) × (next + 64 * high ≤ length room.old)) }
+    ensures { Added 0 0 row next low high room.old room.new }
+{
+    for block in low..high {
+        let made = join_none(room, row + BLOCK * block);
+        put(room, next + BLOCK * block, made);
+    }
+}
+
+// As `add_near`, where one of the two pans weighs nothing and the other `weight`: half as much work.
+fn add_one(room: &mut [u8], row: usize, next: usize, low: usize, high: usize, weight: usize)
+    requires room { (64 ≤ row) × ((row + 64 * high ≤ next) × (next + 64 * high ≤ length room.old)) }
+    requires small { weight ≤ LIMIT }
+    requires blank { (j : ℕ) → j < 64 → slice_index room.old (row - 64 + j) ≡ 255 }
+    ensures { Added weight 0 row next low high room.old room.new }
+{
+    for block in low..high {
+        let from = BLOCK * block;
+        let here = row + from;
+        let made = join_one(room, here, here - weight.min(from + BLOCK));
+        put(room, next + from, made);
+    }
+}
+
+/// Writes the blocks from `low` up to `high` of the row with two pans more; nothing before the row changes.
+///
+/// Weight 0 stands at byte `row` in the row without the two pans, behind a block of 255, and at byte `next` in the new row.
+/// The two pans weigh `first` and `second`, at most 1,000,000 each.
+pub fn add_blocks(
+    room: &mut [u8],
+    row: usize,
+    next: usize,
+    low: usize,
+    high: usize,
+    first: usize,
+    second: usize,
+)
+    requires room { (64 ≤ row) × ((row + 64 * high ≤ next) × (next + 64 * high ≤ length room.old)) }
+    requires small { (first ≤ LIMIT) × (second ≤ LIMIT) }
+    requires blank { (j : ℕ) → j < 64 → slice_index room.old (row - 64 + j) ≡ 255 }
+    ensures same { (j : ℕ) → j < next → slice_index room.new j ≡ slice_index room.old j }
+    ensures made { (x : ℕ) → 64 * low ≤ x → x < 64 * high → row_at room.new next x ≡ joined (joined (row_at room.old row) second) first x }
+{
+    if first + second == 0 {
+        add_none(room, row, next, low, high);
+        return;
+    }
+    if first.min(second) == 0 {
+        add_one(room, row, next, low, high, first + second);
+        return;
+    }
+    // From block `near` on the two pans reach back into the block of 255 at most.
+    let near = ((first + second) / BLOCK).max(low).min(high);
+    add_near(room, row, next, low, near, first, second);
+    add_far(room, row, next, near, high, first, second);
 }

@@ -5,7 +5,7 @@ ghost use Rattle.table.specs.Pans.{free_at, none_old_empty, pairs_of};
 ghost use Rattle.table.specs.Rows.{Rows, joined, row_at};
 ghost use Rattle.table.specs.Surveyed.{Surveyed};
 
-use crate::blocks::{BLOCK, add_far, add_near, blank, get};
+use crate::blocks::{BLOCK, add_blocks, blank, get};
 use crate::pans::pairs;
 use crate::shape::Shape;
 use crate::survey::Survey;
@@ -46,10 +46,7 @@ fn add_pair(
     let pad = shape.pad;
     let next = row + shape.wide();
     blank(room, never, next - pad, pad / BLOCK);
-    // From block `near` on the two pans reach back into the pad's last block at most.
-    let near = ((first + second) / BLOCK).max(low).min(high);
-    add_near(room, row, next, low, near, first, second);
-    add_far(room, row, next, near, high, first, second);
+    add_blocks(room, row, next, low, high, first, second);
     blank(room, never, next + BLOCK * high, shape.blocks - high);
 }
 

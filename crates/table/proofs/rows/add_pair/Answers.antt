@@ -1,29 +1,19 @@
 -- What is left of the proof that a row is made with two pans more.
 use Rattle.std.proofs.Common.{◌≡◌, ℕ, ◌+◌, ◌-◌, ◌*◌, ◌∙◌, sym, arith}
 use Rattle.table.specs.Rows.{row_at}
-use Rattle.table.proofs.Adding.{added_both}
 use Rattle.table.proofs.Joining.{both_same, pad_block}
 use Rattle.table.proofs.rows.add_pair.Goals as goal
 
-pub add_near-requires-clause-blank : goal.add_near-requires-clause-blank
-add_near-requires-clause-blank c = λ j less.
+pub add_blocks-requires-clause-blank : goal.add_blocks-requires-clause-blank
+add_blocks-requires-clause-blank c = λ j less.
     c.blank.ensures.same _ (omega (arith, c.args.shape.long, c.requires.room.0, c.wide.ensures))
-    ∙ pad_block _ c.args.shape.long c.requires.room.0 c.requires.blank j less
-
-pub add_far-requires-clause-far : goal.add_far-requires-clause-far
-add_far-requires-clause-far c = λ some. omega (arith, some, c.min-near.ensures, c.max.ensures)
-
-pub add_far-requires-clause-blank : goal.add_far-requires-clause-blank
-add_far-requires-clause-blank c = λ j less.
-    c.add_near.ensures.same _ (omega (arith, c.args.shape.long, c.requires.room.0, c.wide.ensures))
-    ∙ c.blank.ensures.same _ (omega (arith, c.args.shape.long, c.requires.room.0, c.wide.ensures))
     ∙ pad_block _ c.args.shape.long c.requires.room.0 c.requires.blank j less
 
 pub returns-clause-made : goal.returns-clause-made
 returns-clause-made c = λ x low h.
     rw (sym c.wide.ensures)
     (c.blank-2.ensures.same _ (omega arith)
-    ∙ added_both (omega (arith, c.requires.within, c.wide.ensures)) c.add_near.ensures c.add_far.ensures x low h
+    ∙ c.add_blocks.ensures.made x low h
     ∙ both_same (row_at c.blank.new.room c.args.row) (row_at c.args.room.now c.args.row) c.args.second c.args.first x
     (λ z less. c.blank.ensures.same _ (omega (arith, c.wide.ensures, c.requires.within))))
 
