@@ -11,9 +11,9 @@ use Rattle.choices.proofs.Blocks.{sum_apart}
 use Rattle.choices.proofs.Tallies.{opened_apart, tallied_apart}
 use Rattle.choices.specs.Tallied.{empty_ones, old_ones}
 use Rattle.search.specs.Groups.{TalliedBelow, part, nothing}
-use Rattle.search.proofs.Groups.{Of, group}
+use Rattle.search.proofs.Groups.{TallyOf, group_below}
 
-none : (r : Ring) → Of r 0 nothing
+none : (r : Ring) → TallyOf r 0 nothing
 none r =
     let ws = r.weights.now in
     let n = length ws in
@@ -104,16 +104,16 @@ more p x lt =
 -- the choice with pan p shut
 pub shut :
     (r : Ring) (ts : List Tally) (p x j : ℕ) → p < 24 → x < 2 ^ (p % 6) → j ≡ 64 * (p / 6) + x →
-    TalliedBelow r (2 ^ p + x * 2 ^ (6 * (p / 6))) ts → Of r (x * 2 ^ (6 * (p / 6))) (get_or ts j nothing)
+    TalliedBelow r (2 ^ p + x * 2 ^ (6 * (p / 6))) ts → TallyOf r (x * 2 ^ (6 * (p / 6))) (get_or ts j nothing)
 shut r ts p x j few lt from all =
     let e : j ≡ x + 64 * (p / 6) = omega arith in
-    rw e (group r (2 ^ p + x * 2 ^ (6 * (p / 6))) ts all (p / 6) x (omega arith) (omega (arith, half p)) (omega (arith, more p x lt)))
+    rw e (group_below r (2 ^ p + x * 2 ^ (6 * (p / 6))) ts all (p / 6) x (omega arith) (omega (arith, half p)) (omega (arith, more p x lt)))
 
 -- one entry more
 pub filled :
     (r : Ring) (ts : List Tally) (p x j k : ℕ) (pan d : Tally) → p < 24 → x < 2 ^ (p % 6) →
     j ≡ 64 * (p / 6) + x → k ≡ 64 * (p / 6) + 2 ^ (p % 6) + x → k < length ts →
-    TalliedBelow r (2 ^ p + x * 2 ^ (6 * (p / 6))) ts → Of r (2 ^ p) pan → Adds pan (get_or ts j nothing) d →
+    TalliedBelow r (2 ^ p + x * 2 ^ (6 * (p / 6))) ts → TallyOf r (2 ^ p) pan → Adds pan (get_or ts j nothing) d →
     TalliedBelow r (2 ^ p + (x + 1) * 2 ^ (6 * (p / 6))) (set ts k d)
 filled r ts p x j k pan d few lt from to long all one adds i l below =
     elim (cases_lt i k) [
@@ -130,7 +130,7 @@ filled r ts p x j k pan d few lt from to long all one adds i l below =
     W : ℕ
     W = 2 ^ (6 * g)
 
-    opened : Of r (2 ^ p + x * W) d
+    opened : TallyOf r (2 ^ p + x * W) d
     opened =
         let e : 1 * 2 ^ p ≡ 2 ^ p = omega arith in
         rw e at (tallied_apart r.weights.now r.ages.now r.rule.age 1 p (x * W) pan (get_or ts j nothing) d (more p x lt) (rw e one) (shut r ts p x j few lt from all) adds)
@@ -141,10 +141,10 @@ filled r ts p x j k pan d few lt from to long all one adds i l below =
         let high : k / 64 ≡ g = omega (arith, half p) in
         rw (low, high) (omega (arith, add-mul s x W, units p))
 
-    other : i ≢ k → Of r (part i) (get_or (set ts k d) i nothing)
+    other : i ≢ k → TallyOf r (part i) (get_or (set ts k d) i nothing)
     other ne =
         let apart : i / 64 ≡ g → i % 64 ≢ s + x = λ e. omega arith in
         rw get_or-set_other (all i l (rw (units p) (known g (i / 64) (i % 64) s x (omega arith) (pow_pos (p % 6)) (omega (arith, half p)) apart (rw (units p) at below))))
 
-    same : i ≡ k → Of r (part i) (get_or (set ts k d) i nothing)
+    same : i ≡ k → TallyOf r (part i) (get_or (set ts k d) i nothing)
     same e = rw (e, new) (rw get_or-set_same opened)

@@ -11,38 +11,57 @@ use Rattle.choices.proofs.Blocks.{zeros_multiple, block_within}
 use Rattle.choices.proofs.Numbers.{length_choice_of, choice_of_high}
 use Rattle.choices.proofs.Tallies.{Small, tallied_small}
 use Rattle.search.specs.Groups.{TalliedBelow, nothing}
+use Rattle.search.specs.declared.tallies.Tallies.{Tallies}
 
--- t is the tally of choice k
-abbrev pub Of : Ring → ℕ → Tally → Type 0
-Of r k t = Tallied r.weights.now r.ages.now r.rule.age (choice_of (length r.weights.now) k) t
+-- t is the tally of choice k of a ring's pans
+abbrev pub TallyOf : Ring → ℕ → Tally → Type 0
+TallyOf r k t = Tallied r.weights.now r.ages.now r.rule.age (choice_of (length r.weights.now) k) t
 
 pub fewer : (r : Ring) (a b : ℕ) (ts : List Tally) → a ≤ b → TalliedBelow r b ts → TalliedBelow r a ts
 fewer r a b ts le h i l u = h i l (omega arith)
 
 module _ (r : Ring) (b : ℕ) (ts : List Tally) (all : TalliedBelow r b ts) where
   -- the entry of choice x: of the last six pans, and of group g
-  pub first : (x : ℕ) → x < 64 → x < b → Of r x (get_or ts x nothing)
-  first x h below =
+  pub first_below : (x : ℕ) → x < 64 → x < b → TallyOf r x (get_or ts x nothing)
+  first_below x h below =
       let low : x % 64 ≡ x = omega arith in
       let high : x / 64 ≡ 0 = omega arith in
       let one : x * 1 ≡ x = omega arith in
       rw (low, high, one) at (all x (omega arith)) below
 
-  pub group : (g x : ℕ) → g < 4 → x < 64 → x * 2 ^ (6 * g) < b → Of r (x * 2 ^ (6 * g)) (get_or ts (x + 64 * g) nothing)
-  group g x l h below =
+  pub group_below : (g x : ℕ) → g < 4 → x < 64 → x * 2 ^ (6 * g) < b → TallyOf r (x * 2 ^ (6 * g)) (get_or ts (x + 64 * g) nothing)
+  group_below g x l h below =
       let low : (x + 64 * g) % 64 ≡ x = omega arith in
       let high : (x + 64 * g) / 64 ≡ g = omega arith in
       rw (low, high) at (all (x + 64 * g) (omega arith)) below
 
-small : (r : Ring) (k : ℕ) (t : Tally) → Of r k t → Small t
+small : (r : Ring) (k : ℕ) (t : Tally) → TallyOf r k t → Small t
 small r k t h =
     let n = length r.weights.now in
     tallied_small _ _ _ (choice_of n k) t (omega (arith, length_choice_of n k, r.ordered.few)) r.ordered.light h
 
-pub room :
-    (r : Ring) (k m : ℕ) (a b : Tally) → Of r k a → Of r m b →
+pub sum_fits :
+    (r : Ring) (k m : ℕ) (a b : Tally) → TallyOf r k a → TallyOf r m b →
     (a.weight + b.weight < 2 ^ 32) × ((a.pans + b.pans < 2 ^ 32) × ((a.empty + b.empty < 2 ^ 32) × (a.old + b.old < 2 ^ 32)))
-room r k m a b h j = omega (arith, small r k a h, small r m b j)
+sum_fits r k m a b h j = omega (arith, small r k a h, small r m b j)
+
+-- t is the tally of choice k of a ring whose tallies were made; of all of them each entry is known
+abbrev pub Of : Tallies → ℕ → Tally → Type 0
+Of s k t = Tallied s.ring.weights.now s.ring.ages.now s.ring.rule.age (choice_of (length s.ring.weights.now) k) t
+
+told : (s : Tallies) (b : ℕ) → TalliedBelow s.ring b s.groups
+told s b i h below = record { weighs = s.weighs i h; counts = s.counts i h; empties = s.empties i h; olds = s.olds i h }
+
+pub first : (s : Tallies) (x : ℕ) → x < 64 → Of s x (get_or s.groups x nothing)
+first s x h = first_below s.ring (x + 1) s.groups (told s (x + 1)) x h (omega arith)
+
+pub group : (s : Tallies) (g x : ℕ) → g < 4 → x < 64 → Of s (x * 2 ^ (6 * g)) (get_or s.groups (x + 64 * g) nothing)
+group s g x l h = let b = x * 2 ^ (6 * g) + 1 in group_below s.ring b s.groups (told s b) g x l h (omega arith)
+
+pub room :
+    (s : Tallies) (k m : ℕ) (a b : Tally) → Of s k a → Of s m b →
+    (a.weight + b.weight < 2 ^ 32) × ((a.pans + b.pans < 2 ^ 32) × ((a.empty + b.empty < 2 ^ 32) × (a.old + b.old < 2 ^ 32)))
+room s = sum_fits s.ring
 
 -- a ring's candidates have 24 bits at most
 pub candidate : (n k : ℕ) → n ≤ 24 → k < 2 ^ n → k < 2 ^ 24

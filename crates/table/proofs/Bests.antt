@@ -6,7 +6,7 @@ use Rattle.choices.specs.declared.rule.Rule.{Rule}
 use Rattle.choices.proofs.Choices.{Fitting, fitting, fits_from, opened_le}
 use Rattle.order.specs.Order.{better, first_more, NoneOf, BestBag}
 use Rattle.order.proofs.Orders.{not_better}
-use Rattle.table.specs.Pans.{old_weight_of, old_count_of, none_old_empty, heaviest, span_of, pairs_of, pad_of, width_of, row_bytes, table_bytes}
+use Rattle.table.specs.Pans.{old_weight_of, old_count_of, none_old_empty, span_of, pairs_of, pad_of, width_of, row_bytes, table_bytes}
 use Rattle.table.specs.Rows.{Makes, Row, Rows, Read, Lightest, LightestAt, row_at}
 use Rattle.table.specs.Surveyed.{Surveyed}
 use Rattle.table.specs.declared.survey.Survey.{Survey}
@@ -145,20 +145,33 @@ best_found {r} {ws} {as'} {most} {start} {from} {limit} {x} {number} {bytes} t h
 
 -- ---- what the look over the ring tells of all this
 
--- the room that is asked for has a block or more for each row's pad
+-- rows with a pad as long as two pans reach back fit the room that is asked for
+pub rows_fit :
+    (r : Rule) {ws as' : List ℕ} {s : Survey} {most pad width long : ℕ} → Surveyed r.age ws as' s → most ≡ min (r.target + r.above - s.old_weight) s.free →
+    pad ≡ pad_of most s.heaviest → width ≡ width_of most → table_bytes r ws as' ≤ long → (pad + width) * (pairs_of (length ws) + 1) ≤ long
+unfolding table_bytes row_bytes
+rows_fit r {ws} {as'} {s} h is first wide enough = rw (first, wide, is ∙ span_is r ws as' s h, h.heavy) enough
+
+-- such a pad is a block or more
 pad_some : (most heavy : ℕ) → 64 ≤ pad_of most heavy
 unfolding pad_of
 pad_some most heavy = omega arith
 
-pub rows_fit :
+-- so rows with a block as their pad fit too
+pub rows_fit_behind_a_block :
     (r : Rule) {ws as' : List ℕ} {s : Survey} {most pad width long : ℕ} → Surveyed r.age ws as' s → most ≡ min (r.target + r.above - s.old_weight) s.free →
     pad ≡ 64 → width ≡ width_of most → table_bytes r ws as' ≤ long → (pad + width) * (pairs_of (length ws) + 1) ≤ long
-unfolding table_bytes row_bytes
-rows_fit r {ws} {as'} {s} {most} {pad} {width} h is first wide enough =
+rows_fit_behind_a_block r {ws} {as'} {s} {most} {pad} {width} h is first wide enough =
     let n = pairs_of (length ws) + 1 in
-    let row : pad + width ≤ pad_of (span_of r ws as') (heaviest r.age ws as') + width_of (span_of r ws as') =
-    rw (first, wide, is ∙ span_is r ws as' s h) (omega (arith, pad_some (span_of r ws as') (heaviest r.age ws as'))) in
-    omega (arith, enough, mul_comm (pad + width) n, mul_comm (pad_of (span_of r ws as') (heaviest r.age ws as') + width_of (span_of r ws as')) n, mul-le-mul_left n row)
+    let longer = pad_of most s.heaviest + width in
+    let more : pad + width ≤ longer = omega (arith, first, pad_some most s.heaviest) in
+    omega (
+      arith,
+      rows_fit r h is refl wide enough,
+      mul_comm (pad + width) n,
+      mul_comm longer n,
+      mul-le-mul_left n more,
+    )
 
 pub window :
     {r : Rule} {ws as' : List ℕ} {s : Survey} {most top from pad wide limit : ℕ} {bytes : List ℕ} → Surveyed r.age ws as' s →

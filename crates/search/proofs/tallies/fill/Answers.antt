@@ -3,7 +3,7 @@ use Rattle.std.proofs.Common.{◌≡◌, ℕ, ◌+◌, ◌*◌, ◌/◌, ◌%◌
 use Rattle.std.proofs.lemmas.Nat.{one_shl}
 use Rattle.choices.specs.declared.ring.Ring.{Ring}
 use Rattle.choices.specs.declared.tally.Tally.{Tally}
-use Rattle.search.proofs.Groups.{Of, fewer, room}
+use Rattle.search.proofs.Groups.{TallyOf, fewer, sum_fits}
 use Rattle.search.proofs.Filling.{blank, there, doubled, shut, filled}
 use Rattle.search.proofs.tallies.fill.Goals as goal
 
@@ -12,7 +12,7 @@ halves : (p : ℕ) → (1 * 2 ^ (p % 6)) % 18446744073709551616 ≡ 2 ^ (p % 6)
 halves p = one_shl (p % 6) 64 (omega arith)
 
 -- the tally of one pan
-single : (r : Ring) (p : ℕ) (t : Tally) → p < 24 → Of r ((1 * 2 ^ p) % 4294967296) t → Of r (2 ^ p) t
+single : (r : Ring) (p : ℕ) (t : Tally) → p < 24 → TallyOf r ((1 * 2 ^ p) % 4294967296) t → TallyOf r (2 ^ p) t
 single r p t few h = rw (one_shl p 32 (omega arith)) at h
 
 pub loop-place-init : goal.loop-place-init
@@ -37,7 +37,7 @@ and-requires c =
     let p = c.loop-place.place in
     let few : p < 24 = omega (arith, c.loop-place-test.true, c.args.ring.ordered.few) in
     let lt : c.loop-x.x < 2 ^ (p % 6) = omega (arith, halves p, c.loop-x-test.true) in
-    room c.args.ring (2 ^ p) (c.loop-x.x * 2 ^ (6 * (p / 6))) c.look-pan.result _ (single c.args.ring p c.look-pan.result few c.look-pan.ensures) (shut c.args.ring c.loop-x.groups p c.loop-x.x (64 * (p / 6) + c.loop-x.x) few lt refl c.loop-x.invariant.1)
+    sum_fits c.args.ring (2 ^ p) (c.loop-x.x * 2 ^ (6 * (p / 6))) c.look-pan.result _ (single c.args.ring p c.look-pan.result few c.look-pan.ensures) (shut c.args.ring c.loop-x.groups p c.loop-x.x (64 * (p / 6) + c.loop-x.x) few lt refl c.loop-x.invariant.1)
 
 pub loop-x-preserved : goal.loop-x-preserved
 loop-x-preserved c =

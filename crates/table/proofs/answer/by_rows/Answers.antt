@@ -1,12 +1,12 @@
 -- What is left of the proof that the rows give the best bag.
 use Rattle.std.proofs.Common.{sym, ◌∙◌, arith}
 use Rattle.std.proofs.lemmas.Bool.{and_parts}
-use Rattle.table.proofs.Bests.{rows_fit, window, none_found, best_found}
+use Rattle.table.proofs.Bests.{rows_fit_behind_a_block, window, none_found, best_found}
 use Rattle.table.proofs.answer.by_rows.Goals as goal
 
 pub fill-requires-clause-enough : goal.fill-requires-clause-enough
 fill-requires-clause-enough c =
-    rows_fit c.args.ring.rule c.requires.seen c.span-span.ensures c.of-shape.ensures.pad c.of-shape.ensures.blocks c.requires.room
+    rows_fit_behind_a_block c.args.ring.rule c.requires.seen c.span-span.ensures c.of-shape.ensures.pad c.of-shape.ensures.blocks c.requires.room
 
 pub invariant_of-table : goal.invariant_of-table
 invariant_of-table c =
@@ -15,7 +15,7 @@ invariant_of-table c =
     record {
       old_filled = sym h.old_filled ∙ p.0;
       whole = omega (arith, c.of-shape.ensures.blocks);
-      enough = omega (arith, rows_fit c.args.ring.rule h c.span-span.ensures c.of-shape.ensures.pad c.of-shape.ensures.blocks c.requires.room);
+      enough = omega (arith, rows_fit_behind_a_block c.args.ring.rule h c.span-span.ensures c.of-shape.ensures.pad c.of-shape.ensures.blocks c.requires.room);
     }
 
 pub returns-in_err-x : goal.returns-in_err-x
